@@ -1,0 +1,9 @@
+pub mod Normal
+pub mod Given
+pub mod Identity
+pub mod Members
+pub mod Onto
+pub mod Ascending
+pub mod Counting
+pub mod Search
+pub mod Table

@@ -1,0 +1,5 @@
+pub mod Expression
+pub mod Ring
+pub mod Lists
+pub mod Counts
+pub mod Search

@@ -1,0 +1,10 @@
+pub mod Xor
+pub mod Fold
+pub mod Times
+pub mod Remainder
+pub mod Product
+pub mod Inverse
+pub mod Factor
+pub mod Shift
+pub mod Modulus
+pub mod Aligned

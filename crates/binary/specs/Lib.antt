@@ -1,0 +1,6 @@
+pub mod Xor
+pub mod Fold
+pub mod Times
+pub mod Remainder
+pub mod Product
+pub mod Factor

@@ -1,0 +1,4 @@
+// Code that asks something of its caller (each `requires` says what).
+pub mod digit;
+pub mod factor;
+pub mod modulo;
