@@ -1,0 +1,12 @@
+pub mod Field
+pub mod Power
+pub mod Fermat
+pub mod Trace
+pub mod Polynomial
+pub mod Divide
+pub mod Roots
+pub mod TraceOne
+pub mod Quadratic
+pub mod Multiplicity
+pub mod Build
+pub mod Cyclic
