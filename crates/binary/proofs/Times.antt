@@ -4,11 +4,12 @@ use mathlib.Core.Path.{_≡_, refl, sym, ap, ap₂, _∙_}
 use mathlib.Core.Logic.{_≢_}
 use Prim.Native.Nat.{ℕ, zero, suc, _+_, _*_, _/_, _%_, _^_, _≤_, _<_}
 use native.Mathlib.Nat.{mod-lt, one-mul, zero-mul, mul-one, mul-zero, mul-assoc, zero-add, suc-add, le-add-left}
+use native.Mathlib.Decide.{ℕ-discrete}
 use native.Mathlib.Omega.{arith}
 use lib.Arith.{bin-ind}
 use lib.Pow.{pow-pos, pow-mono}
 use Rattle.binary.specs.Xor.{_⊕_, Degree}
-use Rattle.binary.proofs.Xor.{two-pos, by-digit, zero-xor, xor-zero, xor-comm, xor-assoc, xor-left-comm, xor-double, double-half, double-odd, digits-xor, digits-of, keep-top, has-degree, xor-lt}
+use Rattle.binary.proofs.Xor.{two-pos, by-digit, zero-xor, xor-zero, xor-comm, xor-assoc, xor-left-comm, xor-double, double-half, double-odd, digits-xor, digits-of, keep-top, has-degree, exp-lt, xor-lt}
 use Rattle.binary.specs.Fold.{foldF, fold}
 use Rattle.binary.proofs.Fold.{fold-step}
 use Rattle.binary.specs.Times.{timesStep, times}
@@ -113,3 +114,43 @@ times-ne-zero a b h l e =
     let d = has-degree a h in
     let c = has-degree b l in
     omega (arith, times-ge (d .0) (c .0) a b (d .1) (c .1), pow-pos (d .0 + c .0))
+
+-- where the product with u is below 2 ^ suc k, and u is 2 or more, h is below 2 ^ k
+pub factor-lt : (k h u : ℕ) → 2 ≤ u → times h u < 2 ^ suc k → h < 2 ^ k
+factor-lt k h u l b = go (ℕ-discrete h 0)
+  where
+    nu : u ≢ 0
+    nu e = omega arith
+
+    du : (i : ℕ) × Degree i u
+    du = has-degree u nu
+
+    go : Dec (h ≡ 0) → h < 2 ^ k
+    go (yes e) = rw e (pow-pos k)
+    go (no n) =
+        let i = has-degree h n .0 in
+        let dh = has-degree h n .1 in
+        let s = exp-lt (i + du .0) (suc k) (times h u) (times-ge i (du .0) h u dh (du .1)) b in
+        let t = exp-lt 1 (suc (du .0)) u l (du .1 .1) in
+        let w : suc i ≤ k = omega arith in
+        let f = pow-mono w in
+        omega arith
+
+-- a smaller second factor keeps the product's bound
+pub times-lt-of-lt : (k h u v d : ℕ) → Degree d u → v < 2 ^ d → times h u < 2 ^ suc k → times h v < 2 ^ suc k
+times-lt-of-lt k h u v d du l b = go (ℕ-discrete h 0) (ℕ-discrete v 0)
+  where
+    go : Dec (h ≡ 0) → Dec (v ≡ 0) → times h v < 2 ^ suc k
+    go (yes e) z = rw (e, zero-times) (pow-pos (suc k))
+    go (no n) (yes e) = rw (e, times-zero) (pow-pos (suc k))
+    go (no n) (no nv) =
+        let i = has-degree h n .0 in
+        let dh = has-degree h n .1 in
+        let s = exp-lt (i + d) (suc k) (times h u) (times-ge i d h u dh du) b in
+        let j = has-degree v nv .0 in
+        let dv = has-degree v nv .1 in
+        let t = exp-lt j d v (dv .0) l in
+        let r = times-lt (suc i) j h v (dh .1) (dv .1) in
+        let w : suc i + j ≤ suc k = omega arith in
+        let f = pow-mono w in
+        omega arith

@@ -1,0 +1,6 @@
+pub mod Refusal
+pub mod Quotient
+pub mod Power
+pub mod Number
+pub mod Choice
+pub mod Steps

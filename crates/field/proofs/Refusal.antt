@@ -1,0 +1,170 @@
+-- The tests of a call: `refusal-kept` and `refusal-append` for tests that follow others, `accepted` for what a polynomial that passes is,
+-- `element-small` for an element that passes. Assumes nothing.
+use mathlib.Core.Path.{_≡_, refl, sym, ap, _∙_}
+use mathlib.Core.Logic.{_≢_}
+use mathlib.Core.Bool.{Bool, true, false, not, _||_, false≢true, or-true}
+use mathlib.Core.List.{List, [], _∷_, _++_}
+use Prim.Native.Nat.{ℕ, zero, suc, _^_, _≤_, _<_}
+use native.Mathlib.Decide.{decLt, decLe}
+use native.Mathlib.Omega.{arith}
+use lib.Dec.{T, leb, ltb}
+use borrow.Author.Tests.{lt-ltb, le-ltb, le-leb, lt-leb}
+use Rattle.binary.specs.Xor.{Degree}
+use Rattle.binary.specs.Product.{Modulus}
+use Rattle.binary.specs.Factor.{degreeOf, factorFree}
+use Rattle.binary.proofs.Xor.{has-degree, exp-lt}
+use Rattle.binary.proofs.Factor.{degree-is, test-irreducible}
+use Rattle.galois.specs.Field.{Field}
+use Rattle.field.specs.Limits.{polynomialFloor, polynomialCeiling, largestDegree}
+use Rattle.field.specs.Modulus.{FieldModulus, Accepted}
+use Rattle.field.specs.Refusal.{Test, _⇒_, refusal, Outcome, turnedDown, gives, unlessRefused, outcome, outOfRange, hasFactor, tooLarge, polynomialTests, elementTests, elementsTests}
+
+-- every number is one of the table's, and none is 0
+abbrev pub proper : List Test → Bool
+proper [] = true
+proper ((b ⇒ zero) ∷ ts) = false
+proper ((b ⇒ suc n) ∷ ts) = proper ts
+
+pub refusal-kept : (ts us : List Test) → refusal ts ≢ 0 → refusal (ts ++ us) ≡ refusal ts
+refusal-kept [] us h = absurd (h refl)
+refusal-kept ((true ⇒ n) ∷ ts) us h = refl
+refusal-kept ((false ⇒ n) ∷ ts) us h = refusal-kept ts us h
+
+pub refusal-append : (ts us : List Test) → T (proper ts) → refusal ts ≡ 0 → refusal (ts ++ us) ≡ refusal us
+refusal-append [] us t h = refl
+refusal-append ((true ⇒ zero) ∷ ts) us t h = absurd t
+refusal-append ((true ⇒ suc n) ∷ ts) us t h = absurd (omega arith)
+refusal-append ((false ⇒ zero) ∷ ts) us t h = absurd t
+refusal-append ((false ⇒ suc n) ∷ ts) us t h = refusal-append ts us t h
+
+-- where tests with others after them turn nothing down, they turn nothing down themselves, nor do the others
+pub refusal-front : (ts us : List Test) → T (proper ts) → refusal (ts ++ us) ≡ 0 → refusal ts ≡ 0
+refusal-front [] us t h = refl
+refusal-front ((true ⇒ n) ∷ ts) us t h = h
+refusal-front ((false ⇒ zero) ∷ ts) us t h = absurd t
+refusal-front ((false ⇒ suc n) ∷ ts) us t h = refusal-front ts us t h
+
+pub refusal-back : (ts us : List Test) → T (proper ts) → refusal (ts ++ us) ≡ 0 → refusal us ≡ 0
+refusal-back ts us t h = sym (refusal-append ts us t (refusal-front ts us t h)) ∙ h
+
+-- a test that does not turn down does not apply
+pub passed : (b : Bool) (n : ℕ) → n ≢ 0 → refusal (b ⇒ n ∷ []) ≡ 0 → b ≡ false
+passed true n h e = absurd (h e)
+passed false n h e = refl
+
+-- the tests before pass, and one more decides
+pub then-applies : (ts : List Test) (r n : ℕ) (b : Bool) → T (proper ts) → r ≡ refusal ts → r ≡ 0 → true ≡ b → n ≡ refusal (ts ++ b ⇒ n ∷ [])
+then-applies ts r n b t e z q = ap (λ (c : Bool). refusal (c ⇒ n ∷ [])) q ∙ sym (refusal-append ts (b ⇒ n ∷ []) t (sym e ∙ z))
+
+pub then-passes : (ts : List Test) (r n : ℕ) (b : Bool) → T (proper ts) → r ≡ refusal ts → r ≡ 0 → false ≡ b → 0 ≡ refusal (ts ++ b ⇒ n ∷ [])
+then-passes ts r n b t e z q = ap (λ (c : Bool). refusal (c ⇒ n ∷ [])) q ∙ sym (refusal-append ts (b ⇒ n ∷ []) t (sym e ∙ z))
+
+pub then-kept : (ts us : List Test) (r : ℕ) → r ≡ refusal ts → r ≢ 0 → r ≡ refusal (ts ++ us)
+then-kept ts us r e n = e ∙ sym (refusal-kept ts us (λ z. n (e ∙ z)))
+
+-- what a call answers: turned down where a test applies, else its value
+pub down : (r v : ℕ) (ts : List Test) → r ≡ refusal ts → r ≢ 0 → turnedDown r ≡ outcome ts v
+down r v ts e n = go r n ∙ ap (λ (k : ℕ). unlessRefused k v) e
+  where
+    go : (r : ℕ) → r ≢ 0 → turnedDown r ≡ unlessRefused r v
+    go zero h = absurd (h refl)
+    go (suc r) h = refl
+
+pub given : (v w : ℕ) (ts : List Test) → refusal ts ≡ 0 → v ≡ w → gives v ≡ outcome ts w
+given v w ts e q = ap gives q ∙ ap (λ (k : ℕ). unlessRefused k w) (sym e)
+
+-- ---- the field polynomial
+
+pub too-low : (p : ℕ) → p < polynomialFloor → outOfRange p ≡ true
+unfolding outOfRange
+too-low p h = rw (lt-ltb p polynomialFloor h)
+
+pub too-high : (p : ℕ) → polynomialCeiling ≤ p → outOfRange p ≡ true
+unfolding outOfRange
+too-high p h = rw (le-leb polynomialCeiling p h) (or-true (ltb p polynomialFloor))
+
+pub in-range : (p : ℕ) → polynomialFloor ≤ p → p < polynomialCeiling → outOfRange p ≡ false
+unfolding outOfRange
+in-range p h l = rw (le-ltb p polynomialFloor h, lt-leb polynomialCeiling p l)
+
+pub has-factor : (m p : ℕ) (r : Bool) → Degree m p → r ≡ factorFree m p → hasFactor p ≡ not r
+unfolding hasFactor
+has-factor m p r d e = rw (degree-is m p d) (ap not (sym e))
+
+module _ (p : ℕ) (h : polynomialFloor ≤ p) where
+  nonzero : p ≢ 0
+  nonzero e = omega arith
+
+  -- the degree is the one defined
+  pub degree-of : Degree (degreeOf p) p
+  degree-of = let d = has-degree p nonzero in rw (degree-is (d .0) p (d .1)) (d .1)
+
+  pub two-le : 2 ≤ degreeOf p
+  two-le = let l = exp-lt 2 (suc (degreeOf p)) p h (degree-of .1) in omega arith
+
+  pub degree-small : p < polynomialCeiling → degreeOf p ≤ largestDegree
+  degree-small l = let w = exp-lt (degreeOf p) (suc largestDegree) p (degree-of .0) l in omega arith
+
+  pub modulus-of : p < polynomialCeiling → Modulus (degreeOf p) p
+  modulus-of l = let w = degree-small l in record { degree = degree-of; two = two-le; fits = omega arith }
+
+-- the range, and the test of factors
+range : (p : ℕ) → outOfRange p ≡ false → (polynomialFloor ≤ p) × (p < polynomialCeiling)
+range p e = go (decLt p polynomialFloor) (decLt p polynomialCeiling)
+  where
+    go : Dec (p < polynomialFloor) → Dec (p < polynomialCeiling) → (polynomialFloor ≤ p) × (p < polynomialCeiling)
+    go (yes l) k = absurd (false≢true (sym e ∙ too-low p l))
+    go (no l) (yes k) = (omega arith, k)
+    go (no l) (no k) = absurd (false≢true (sym e ∙ too-high p (omega arith)))
+
+free : (p : ℕ) → hasFactor p ≡ false → factorFree (degreeOf p) p ≡ true
+unfolding hasFactor
+free p e = go (factorFree (degreeOf p) p) refl
+  where
+    go : (b : Bool) → factorFree (degreeOf p) p ≡ b → factorFree (degreeOf p) p ≡ true
+    go true q = q
+    go false q = absurd (false≢true (sym e ∙ ap not q))
+
+pub accepted : (p : ℕ) → refusal (polynomialTests p) ≡ 0 → Accepted p
+accepted p e =
+    let r = range p (passed (outOfRange p) 1 (λ z. omega arith) (refusal-front (outOfRange p ⇒ 1 ∷ []) (hasFactor p ⇒ 2 ∷ []) tt e)) in
+    let f = free p (passed (hasFactor p) 2 (λ z. omega arith) (refusal-back (outOfRange p ⇒ 1 ∷ []) (hasFactor p ⇒ 2 ∷ []) tt e)) in
+    let two = two-le p (r .0) in
+    record {
+      largest = degree-small p (r .0) (r .1);
+      ready = record {
+        modulus = modulus-of p (r .0) (r .1);
+        field = record { irr = test-irreducible (degreeOf p) p (degree-of p (r .0)) f; pos = omega arith };
+      };
+    }
+
+-- ---- elements
+
+pub too-large : (p a : ℕ) → 2 ^ degreeOf p ≤ a → tooLarge p a ≡ true
+unfolding tooLarge
+too-large p a h = le-leb (2 ^ degreeOf p) a h
+
+pub not-too-large : (p a : ℕ) → a < 2 ^ degreeOf p → tooLarge p a ≡ false
+unfolding tooLarge
+not-too-large p a h = lt-leb (2 ^ degreeOf p) a h
+
+small : (p a : ℕ) → tooLarge p a ≡ false → a < 2 ^ degreeOf p
+small p a e = go (decLe (2 ^ degreeOf p) a)
+  where
+    go : Dec (2 ^ degreeOf p ≤ a) → a < 2 ^ degreeOf p
+    go (yes h) = absurd (false≢true (sym e ∙ too-large p a h))
+    go (no h) = omega arith
+
+pub element-passed : (p a : ℕ) → refusal (elementTests p a) ≡ 0 → Accepted p × (a < 2 ^ degreeOf p)
+element-passed p a e = (
+  accepted p (refusal-front (polynomialTests p) (tooLarge p a ⇒ 4 ∷ []) tt e),
+  small p a (passed (tooLarge p a) 4 (λ z. omega arith) (refusal-back (polynomialTests p) (tooLarge p a ⇒ 4 ∷ []) tt e)),
+)
+
+pub elements-passed : (p a b : ℕ) → refusal (elementsTests p a b) ≡ 0 → Accepted p × (a < 2 ^ degreeOf p) × (b < 2 ^ degreeOf p)
+elements-passed p a b e =
+    let r = element-passed p a (refusal-front (elementTests p a) (tooLarge p b ⇒ 4 ∷ []) tt e) in (
+      r .0,
+      r .1,
+      small p b (passed (tooLarge p b) 4 (λ z. omega arith) (refusal-back (elementTests p a) (tooLarge p b ⇒ 4 ∷ []) tt e)),
+    )

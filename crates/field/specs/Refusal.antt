@@ -1,0 +1,55 @@
+-- "Numbers a call is turned down by. First that applies wins" (01): a call's tests in their order, and what they say. Assumes nothing.
+use mathlib.Core.Bool.{Bool, true, false, not, _||_}
+use mathlib.Core.List.{List, [], _∷_, _++_}
+use Prim.Native.Nat.{ℕ, zero, suc, _^_}
+use lib.Dec.{leb, ltb}
+use Rattle.binary.specs.Factor.{degreeOf, factorFree}
+use Rattle.field.specs.Limits.{polynomialFloor, polynomialCeiling}
+
+infix 70 _⇒_
+-- where the first holds, the call is turned down by the second
+pub data Test : Type 0 where
+  _⇒_ : Bool → ℕ → Test
+
+-- the number of the first test that applies, and 0 where none does
+abbrev pub refusal : List Test → ℕ
+refusal [] = 0
+refusal ((b ⇒ n) ∷ ts) = elim b [ true ↦ n | false ↦ refusal ts ]
+
+-- what a call says: turned down by a number of the table, or a value
+pub data Outcome : Type 0 where
+  turnedDown : ℕ → Outcome
+  gives : ℕ → Outcome
+
+-- "a call turned down returns its number, every other part of the answer 0": it has no value
+abbrev pub unlessRefused : ℕ → ℕ → Outcome
+unlessRefused zero v = gives v
+unlessRefused (suc n) v = turnedDown (suc n)
+
+-- a call with these tests and this value
+abbrev pub outcome : List Test → ℕ → Outcome
+outcome ts v = unlessRefused (refusal ts) v
+
+-- 1: "field polynomial below 4 or at least 131072"
+unfoldable pub outOfRange : ℕ → Bool
+outOfRange p = ltb p polynomialFloor || leb polynomialCeiling p
+
+-- 2: "field polynomial has a proper factor"
+unfoldable pub hasFactor : ℕ → Bool
+hasFactor p = not (factorFree (degreeOf p) p)
+
+-- 4: "an element or coefficient is 2^m or more, or a logarithm number too large"
+unfoldable pub tooLarge : ℕ → ℕ → Bool
+tooLarge p a = leb (2 ^ degreeOf p) a
+
+-- "every public call that works in a field takes this number and tests it"
+abbrev pub polynomialTests : ℕ → List Test
+polynomialTests p = outOfRange p ⇒ 1 ∷ hasFactor p ⇒ 2 ∷ []
+
+-- then the element
+abbrev pub elementTests : ℕ → ℕ → List Test
+elementTests p a = polynomialTests p ++ tooLarge p a ⇒ 4 ∷ []
+
+-- or the two elements
+abbrev pub elementsTests : ℕ → ℕ → ℕ → List Test
+elementsTests p a b = elementTests p a ++ tooLarge p b ⇒ 4 ∷ []

@@ -1,0 +1,5 @@
+// Code that asks something of its caller (each `requires` says what), and the tests that the public calls begin with.
+pub mod inverse;
+pub mod logarithm;
+pub mod power;
+pub mod refusal;

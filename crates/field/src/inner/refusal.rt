@@ -1,0 +1,70 @@
+// The tests that a public call begins with, in the order of the table of numbers; 0 where none applies.
+ghost use mathlib.Core.Path.{_≡_};
+ghost use Rattle.binary.specs.Factor.{degreeOf};
+ghost use Rattle.field.specs.Modulus.{Accepted};
+ghost use Rattle.field.specs.Refusal.{refusal, tooLarge, polynomialTests, elementTests, elementsTests};
+use crate::refused;
+use binary::inner::digit::degree;
+use binary::inner::digit::power_of_two;
+use binary::inner::factor::factor_free;
+
+const POLYNOMIAL_FLOOR: u32 = 4;
+
+const POLYNOMIAL_CEILING: u32 = 131072;
+
+// The degree m of an accepted polynomial.
+pub fn degree_of(p: u32) -> u32
+    requires { ⌜ Accepted p ⌝ }
+    ensures { λ r. ⌜ r ≡ degreeOf p ⌝ }
+{
+    degree(p)
+}
+
+pub fn of_polynomial(p: u32) -> u32
+    ensures { λ r. ⌜ r ≡ refusal (polynomialTests p) ⌝ }
+{
+    if p < POLYNOMIAL_FLOOR {
+        return refused::OUT_OF_RANGE;
+    }
+    if POLYNOMIAL_CEILING <= p {
+        return refused::OUT_OF_RANGE;
+    }
+    if factor_free(p, degree(p)) {
+        return 0;
+    }
+    refused::HAS_FACTOR
+}
+
+// Whether a is no element of the field: 2^m or more.
+fn too_large(p: u32, a: u32) -> bool
+    requires { ⌜ Accepted p ⌝ }
+    ensures { λ r. ⌜ r ≡ tooLarge p a ⌝ }
+{
+    power_of_two(degree_of(p)) <= a
+}
+
+pub fn of_element(p: u32, a: u32) -> u32
+    ensures { λ r. ⌜ r ≡ refusal (elementTests p a) ⌝ }
+{
+    let refused = of_polynomial(p);
+    if refused != 0 {
+        return refused;
+    }
+    if too_large(p, a) {
+        return refused::TOO_LARGE;
+    }
+    0
+}
+
+pub fn of_elements(p: u32, a: u32, b: u32) -> u32
+    ensures { λ r. ⌜ r ≡ refusal (elementsTests p a b) ⌝ }
+{
+    let refused = of_element(p, a);
+    if refused != 0 {
+        return refused;
+    }
+    if too_large(p, b) {
+        return refused::TOO_LARGE;
+    }
+    0
+}

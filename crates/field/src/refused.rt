@@ -1,0 +1,8 @@
+// The numbers a call is turned down by (01), "first that applies wins".
+pub const OUT_OF_RANGE: u32 = 1;
+
+pub const HAS_FACTOR: u32 = 2;
+
+pub const TOO_LARGE: u32 = 4;
+
+pub const DIVISION_BY_ZERO: u32 = 6;
