@@ -1,6 +1,7 @@
 pub mod Refusal
-pub mod Quotient
-pub mod Power
-pub mod Number
+pub mod Ready
+pub mod QuotientLaws
+pub mod PowerLaws
+pub mod NumberLaws
 pub mod Choice
 pub mod Steps

@@ -73,6 +73,18 @@ down r v ts e n = go r n ∙ ap (λ (k : ℕ). unlessRefused k v) e
 pub given : (v w : ℕ) (ts : List Test) → refusal ts ≡ 0 → v ≡ w → gives v ≡ outcome ts w
 given v w ts e q = ap gives q ∙ ap (λ (k : ℕ). unlessRefused k w) (sym e)
 
+-- and the same where one more test follows those that a function made
+pub down-first : (r v : ℕ) (ts us : List Test) → r ≡ refusal ts → r ≢ 0 → turnedDown r ≡ outcome (ts ++ us) v
+down-first r v ts us e n = down r v (ts ++ us) (then-kept ts us r e n) n
+
+pub down-last : (r v n : ℕ) (b : Bool) (ts : List Test) → T (proper ts) → r ≡ refusal ts → r ≡ 0 → b ≡ true → n ≢ 0
+    → turnedDown n ≡ outcome (ts ++ b ⇒ n ∷ []) v
+down-last r v n b ts t e z q k = down n v (ts ++ b ⇒ n ∷ []) (then-applies ts r n b t e z (sym q)) k
+
+pub given-last : (r v w n : ℕ) (b : Bool) (ts : List Test) → T (proper ts) → r ≡ refusal ts → r ≡ 0 → b ≡ false → v ≡ w
+    → gives v ≡ outcome (ts ++ b ⇒ n ∷ []) w
+given-last r v w n b ts t e z q f = given v w (ts ++ b ⇒ n ∷ []) (sym (then-passes ts r n b t e z (sym q))) f
+
 -- ---- the field polynomial
 
 pub too-low : (p : ℕ) → p < polynomialFloor → outOfRange p ≡ true

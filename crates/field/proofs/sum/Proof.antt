@@ -17,8 +17,9 @@ returns c =
 
 returns-2 : tie.Need-returns-2
 returns-2 c =
-    let a = c .before .before .args in
-    given _ _ (elementsTests (a .p) (a .a .0) (a .b .0)) (sym (c .before .of-elements .ensures) ∙ c .if1 .left) (sym (is-xor (a .a .0) (a .b .0)))
+    let a = c .before .before .before .before .args in
+    given _ _ (elementsTests (a .p) (a .a .0) (a .b .0)) (sym (c .before .before .before .of-elements .ensures) ∙ c .before .before .if1 .left)
+    (sym (is-xor (a .a .0) (a .b .0)))
 
 pub sum-spec : {M : Type 1} → statement M
 sum-spec = tie.close (tie.spec of-elements-requires returns returns-2)

@@ -1,16 +1,19 @@
 // The tests that a public call begins with, in the order of the table of numbers; 0 where none applies.
 ghost use mathlib.Core.Path.{_≡_};
+ghost use mathlib.Core.Bool.{_&&_};
+ghost use lib.Dec.{eqb};
+ghost use lib.IntN.{pos};
+ghost use lib.Signed.{ltZ};
 ghost use Rattle.binary.specs.Factor.{degreeOf};
 ghost use Rattle.field.specs.Modulus.{Accepted};
 ghost use Rattle.field.specs.Refusal.{refusal, tooLarge, polynomialTests, elementTests, elementsTests};
+use crate::inner::power::is_negative;
+use crate::limits::POLYNOMIAL_CEILING;
+use crate::limits::POLYNOMIAL_FLOOR;
 use crate::refused;
 use binary::inner::digit::degree;
 use binary::inner::digit::power_of_two;
 use binary::inner::factor::factor_free;
-
-const POLYNOMIAL_FLOOR: u32 = 4;
-
-const POLYNOMIAL_CEILING: u32 = 131072;
 
 // The degree m of an accepted polynomial.
 pub fn degree_of(p: u32) -> u32
@@ -67,4 +70,14 @@ pub fn of_elements(p: u32, a: u32, b: u32) -> u32
         return refused::TOO_LARGE;
     }
     0
+}
+
+// Whether a power is 0 to a negative exponent.
+pub fn zero_to_negative(a: u32, e: i32) -> bool
+    ensures { λ r. ⌜ r ≡ (eqb a 0 && ltZ e (pos 0)) ⌝ }
+{
+    if a == 0 {
+        return is_negative(e);
+    }
+    false
 }

@@ -1,8 +1,7 @@
 -- `quotient` meets its contract. Assumes nothing.
-use mathlib.Core.Path.{_≡_, _∙_}
-use native.Mathlib.Omega.{arith}
+use mathlib.Core.Path.{_∙_}
 use borrow.Author.Needs.{needs}
-use Rattle.field.proofs.Quotient.{quotient-by}
+use Rattle.field.proofs.QuotientLaws.{quotient-by}
 use Rattle.field.proofs.inner.inverse.quotient.Statement.{statement}
 use Rattle.field.proofs.inner.inverse.quotient.Tie as tie
 

@@ -1,10 +1,8 @@
 -- `number` meets its contract. Assumes nothing.
-use mathlib.Core.Path.{_≡_, sym, ap, _∙_}
-use Prim.Native.Nat.{ℕ, _-_, _≤_, _<_, _^_}
+use Prim.Native.Nat.{_-_}
 use native.Mathlib.Omega.{arith}
-use lib.Pow.{pow-pos, pow-mono}
-use borrow.Author.Needs.{needs}
-use Rattle.field.proofs.Number.{Tried, tried-start, tried-turn, tried-found, tried-all}
+use lib.Pow.{pow-pos}
+use Rattle.field.proofs.NumberLaws.{Tried, tried-start, tried-turn, tried-found, tried-all}
 use Rattle.field.proofs.inner.logarithm.number.Statement.{statement}
 use Rattle.field.proofs.inner.logarithm.number.Tie as tie
 

@@ -1,7 +1,7 @@
 -- `power` meets its contract. Assumes nothing.
-use mathlib.Core.Path.{_≡_, sym, _∙_}
+use mathlib.Core.Path.{sym, _∙_}
 use mir.Facts.{toZ-ofZ}
-use Rattle.field.proofs.Power.{power-plain, power-inverse}
+use Rattle.field.proofs.PowerLaws.{power-plain, power-inverse}
 use borrow.Author.Needs.{needs}
 use Rattle.field.proofs.inner.power.power.Statement.{statement}
 use Rattle.field.proofs.inner.power.power.Tie as tie

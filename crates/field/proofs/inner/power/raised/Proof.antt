@@ -1,15 +1,14 @@
 -- `raised` meets its contract. Assumes nothing.
-use mathlib.Core.Path.{_≡_, refl, sym, ap, ap₂, _∙_}
+use mathlib.Core.Path.{_≡_, sym, ap, ap₂, _∙_}
 use Prim.Native.Nat.{ℕ, _/_, _%_, _<_, _^_}
 use native.Mathlib.Omega.{arith}
-use borrow.Author.Needs.{needs}
 use Rattle.binary.specs.Product.{product}
 use Rattle.binary.proofs.Product.{product-lt, product-one, one-product, product-assoc}
 use Rattle.galois.specs.Field.{Field}
 use Rattle.galois.proofs.Field.{one-lt}
 use Rattle.galois.specs.Power.{power}
 use Rattle.galois.proofs.Power.{power-lt}
-use Rattle.field.proofs.Power.{power-digit}
+use Rattle.field.proofs.PowerLaws.{power-digit}
 use Rattle.field.proofs.inner.power.raised.Statement.{statement}
 use Rattle.field.proofs.inner.power.raised.Tie as tie
 

@@ -2,7 +2,6 @@
 use mathlib.Core.Path.{_≡_, sym, ap, _∙_}
 use Prim.Native.Nat.{ℕ, _<_, _^_}
 use native.Mathlib.Omega.{arith}
-use borrow.Author.Needs.{needs}
 use Rattle.binary.specs.Product.{product}
 use Rattle.binary.proofs.Product.{product-one}
 use Rattle.galois.specs.Field.{Field}

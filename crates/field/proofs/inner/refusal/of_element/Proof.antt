@@ -1,5 +1,5 @@
 -- `of_element` meets its contract. Assumes nothing.
-use mathlib.Core.Path.{_≡_, sym, _∙_}
+use mathlib.Core.Path.{sym, _∙_}
 use mathlib.Core.List.{[], _∷_}
 use borrow.Author.Needs.{needs}
 use Rattle.field.specs.Refusal.{_⇒_, tooLarge, polynomialTests}

@@ -12,7 +12,7 @@ use Rattle.binary.proofs.Product.{product-comm}
 use Rattle.galois.specs.Field.{Field}
 use Rattle.galois.specs.Power.{power}
 use Rattle.galois.proofs.Power.{power-add, power-mul, power-two}
-use Rattle.field.proofs.Quotient.{quotient-is}
+use Rattle.field.proofs.QuotientLaws.{quotient-is}
 use Rattle.field.specs.Power.{powerOf}
 
 module _ (m p : ℕ) (F : Field m p) where
