@@ -5,3 +5,8 @@ pub mod PowerLaws
 pub mod NumberLaws
 pub mod Choice
 pub mod Steps
+pub mod HouseTable
+pub mod Unique
+pub mod Theorems
+pub mod Acceptance
+pub mod Rows

@@ -1,12 +1,13 @@
--- The quotient a / b: the first q below 2 ^ m with q·b = a, and there is no other. Assumes nothing.
-use mathlib.Core.Path.{_≡_, sym, ap, _∙_}
+-- The quotient: `quotient-is` that no other q has q·b = a, `quotient-by` that it is the product with the inverse, `quotient-product`
+-- that it is right, `quotient-lt` that it is an element. Assumes nothing.
+use mathlib.Core.Path.{subst, _≡_, sym, ap, _∙_}
 use Prim.Native.Nat.{ℕ, _^_, _<_}
 use native.Mathlib.Omega.{arith}
 use lib.Dec.{eqb}
 use borrow.Author.Tests.{eq-eqb, ne-eqb}
 use Rattle.binary.specs.Product.{product}
 use Rattle.binary.proofs.Product.{product-comm, product-one, product-assoc, product-lt}
-use Rattle.binary.proofs.Inverse.{product-cancel}
+use Rattle.binary.proofs.Inverse.{product-cancel, inverse}
 use Rattle.galois.specs.Field.{Field}
 use Rattle.algebra.proofs.Search.{first-is}
 use Rattle.field.specs.Quotient.{quotientOf}
@@ -28,3 +29,15 @@ module _ (m p : ℕ) (F : Field m p) where
   quotient-by a b s ha n h e =
       quotient-is a b (product p a s) n h (product-lt m p (F .irr .degree) a s)
       (product-assoc m p (F .irr .degree) a s b ∙ ap (product p a) (product-comm p s b ∙ e) ∙ product-one m p (F .irr .degree) a ha)
+
+  -- the quotient times b is a
+  pub quotient-product : (a b : ℕ) → a < 2 ^ m → 0 < b → b < 2 ^ m → product p (quotientOf m p a b) b ≡ a
+  quotient-product a b ha n h =
+      let s = inverse m p (F .irr) b (λ z. omega arith) h in
+      ap (λ (q : ℕ). product p q b) (sym (quotient-by a b (s .0) ha n h (s .2)))
+      ∙ product-assoc m p (F .irr .degree) a (s .0) b ∙ ap (product p a) (product-comm p (s .0) b ∙ s .2) ∙ product-one m p (F .irr .degree) a ha
+
+  pub quotient-lt : (a b : ℕ) → a < 2 ^ m → 0 < b → b < 2 ^ m → quotientOf m p a b < 2 ^ m
+  quotient-lt a b ha n h =
+      let s = inverse m p (F .irr) b (λ z. omega arith) h in
+      subst (λ (q : ℕ). q < 2 ^ m) (quotient-by a b (s .0) ha n h (s .2)) (product-lt m p (F .irr .degree) a (s .0))

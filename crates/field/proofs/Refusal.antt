@@ -2,22 +2,21 @@
 -- `element-small` for an element that passes. Assumes nothing.
 use mathlib.Core.Path.{_≡_, refl, sym, ap, _∙_}
 use mathlib.Core.Logic.{_≢_}
-use mathlib.Core.Bool.{Bool, true, false, not, _||_, false≢true, or-true}
+use mathlib.Core.Bool.{Bool, true, false, not, false≢true, or-true}
 use mathlib.Core.List.{List, [], _∷_, _++_}
 use Prim.Native.Nat.{ℕ, zero, suc, _^_, _≤_, _<_}
 use native.Mathlib.Decide.{decLt, decLe}
 use native.Mathlib.Omega.{arith}
-use lib.Dec.{T, leb, ltb}
+use lib.Dec.{T, ltb}
 use borrow.Author.Tests.{lt-ltb, le-ltb, le-leb, lt-leb}
 use Rattle.binary.specs.Xor.{Degree}
 use Rattle.binary.specs.Product.{Modulus}
 use Rattle.binary.specs.Factor.{degreeOf, factorFree}
 use Rattle.binary.proofs.Xor.{has-degree, exp-lt}
 use Rattle.binary.proofs.Factor.{degree-is, test-irreducible}
-use Rattle.galois.specs.Field.{Field}
 use Rattle.field.specs.Limits.{polynomialFloor, polynomialCeiling, largestDegree}
-use Rattle.field.specs.Modulus.{FieldModulus, Accepted}
-use Rattle.field.specs.Refusal.{Test, _⇒_, refusal, Outcome, turnedDown, gives, unlessRefused, outcome, outOfRange, hasFactor, tooLarge, polynomialTests, elementTests, elementsTests}
+use Rattle.field.specs.Modulus.{Accepted}
+use Rattle.field.specs.Refusal.{Test, _⇒_, refusal, turnedDown, gives, unlessRefused, outcome, outOfRange, hasFactor, tooLarge, polynomialTests, elementTests, elementsTests}
 
 -- every number is one of the table's, and none is 0
 abbrev pub proper : List Test → Bool
@@ -137,9 +136,12 @@ free p e = go (factorFree (degreeOf p) p) refl
     go true q = q
     go false q = absurd (false≢true (sym e ∙ ap not q))
 
+pub accepted-range : (p : ℕ) → refusal (polynomialTests p) ≡ 0 → (polynomialFloor ≤ p) × (p < polynomialCeiling)
+accepted-range p e = range p (passed (outOfRange p) 1 (λ z. omega arith) (refusal-front (outOfRange p ⇒ 1 ∷ []) (hasFactor p ⇒ 2 ∷ []) tt e))
+
 pub accepted : (p : ℕ) → refusal (polynomialTests p) ≡ 0 → Accepted p
 accepted p e =
-    let r = range p (passed (outOfRange p) 1 (λ z. omega arith) (refusal-front (outOfRange p ⇒ 1 ∷ []) (hasFactor p ⇒ 2 ∷ []) tt e)) in
+    let r = accepted-range p e in
     let f = free p (passed (hasFactor p) 2 (λ z. omega arith) (refusal-back (outOfRange p ⇒ 1 ∷ []) (hasFactor p ⇒ 2 ∷ []) tt e)) in
     let two = two-le p (r .0) in
     record {

@@ -8,3 +8,4 @@ pub mod Number
 pub mod House
 pub mod Calls
 pub mod Answers
+pub mod Rows
