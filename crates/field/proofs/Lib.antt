@@ -1,12 +1,7 @@
 pub mod Refusal
 pub mod Ready
-pub mod QuotientLaws
-pub mod PowerLaws
-pub mod NumberLaws
-pub mod Choice
-pub mod Steps
 pub mod HouseTable
-pub mod Unique
-pub mod Theorems
 pub mod Acceptance
+pub mod Theorems
+pub mod Unique
 pub mod Rows

@@ -2,7 +2,8 @@
 use mathlib.Core.Path.{_≡_, sym, _∙_, subst}
 use Prim.Native.Nat.{ℕ, _^_, _<_}
 use Rattle.binary.specs.Factor.{degreeOf}
-use Rattle.field.specs.Modulus.{FieldModulus, Accepted}
+use Rattle.arithmetic.specs.Modulus.{FieldModulus}
+use Rattle.field.specs.Accepted.{Accepted}
 use Rattle.field.specs.Refusal.{refusal, polynomialTests, elementTests, elementsTests}
 use Rattle.field.proofs.Refusal.{accepted, element-passed, elements-passed}
 

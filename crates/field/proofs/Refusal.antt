@@ -15,7 +15,7 @@ use Rattle.binary.specs.Factor.{degreeOf, factorFree}
 use Rattle.binary.proofs.Xor.{has-degree, exp-lt}
 use Rattle.binary.proofs.Factor.{degree-is, test-irreducible}
 use Rattle.field.specs.Limits.{polynomialFloor, polynomialCeiling, largestDegree}
-use Rattle.field.specs.Modulus.{Accepted}
+use Rattle.field.specs.Accepted.{Accepted}
 use Rattle.field.specs.Refusal.{Test, _⇒_, refusal, turnedDown, gives, unlessRefused, outcome, outOfRange, hasFactor, tooLarge, polynomialTests, elementTests, elementsTests}
 
 -- every number is one of the table's, and none is 0

@@ -10,9 +10,9 @@ use Rattle.binary.specs.Factor.{degreeOf, factorFree}
 use Rattle.galois.specs.Power.{power, squares}
 use Rattle.galois.specs.Trace.{partTrace}
 use Rattle.field.specs.Refusal.{outOfRange, hasFactor, tooLarge}
-use Rattle.field.specs.Quotient.{quotientOf}
-use Rattle.field.specs.Power.{powerOf}
-use Rattle.field.specs.Number.{numbered, numberOf}
+use Rattle.arithmetic.specs.Quotient.{quotientOf}
+use Rattle.arithmetic.specs.Power.{powerOf}
+use Rattle.arithmetic.specs.Number.{numbered, numberOf}
 use Rattle.field.specs.Rows.{rowHolds, rowsHold, starredRows}
 
 pub starred-rows-hold : T (rowsHold starredRows)

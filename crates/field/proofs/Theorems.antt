@@ -18,13 +18,13 @@ use Rattle.galois.proofs.Field.{field-laws}
 use Rattle.galois.proofs.Power.{power-mul, power-product, zero-power, squares-is}
 use Rattle.galois.proofs.Fermat.{fermat, root-square, root-unique}
 use Rattle.galois.proofs.Trace.{trace-xor, trace-square, trace-bit}
-use Rattle.field.specs.Modulus.{Accepted}
-use Rattle.field.specs.Quotient.{quotientOf}
-use Rattle.field.specs.Power.{powerOf}
-use Rattle.field.specs.Number.{numberOf, elementOf}
-use Rattle.field.proofs.QuotientLaws.{quotient-is, quotient-product, quotient-lt}
-use Rattle.field.proofs.PowerLaws.{power-sum}
-use Rattle.field.proofs.NumberLaws.{number-back, number-least, number-lt, number-zero}
+use Rattle.field.specs.Accepted.{Accepted}
+use Rattle.arithmetic.specs.Quotient.{quotientOf}
+use Rattle.arithmetic.specs.Power.{powerOf}
+use Rattle.arithmetic.specs.Number.{numberOf, elementOf}
+use Rattle.arithmetic.proofs.Quotient.{quotient-is, quotient-product, quotient-lt}
+use Rattle.arithmetic.proofs.Power.{power-sum}
+use Rattle.arithmetic.proofs.Number.{number-back, number-least, number-lt, number-zero}
 
 module _ (p : ℕ) (A : Accepted p) where
   F : Field (degreeOf p) p

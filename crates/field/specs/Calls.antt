@@ -13,9 +13,9 @@ use Rattle.galois.specs.Power.{power}
 use Rattle.galois.specs.Trace.{trace}
 use Rattle.field.specs.Limits.{smallestDegree, largestDegree}
 use Rattle.field.specs.Refusal.{_⇒_, Outcome, outcome, tooLarge, polynomialTests, elementTests, elementsTests}
-use Rattle.field.specs.Quotient.{quotientOf}
-use Rattle.field.specs.Power.{powerOf}
-use Rattle.field.specs.Number.{numberOf, elementOf}
+use Rattle.arithmetic.specs.Quotient.{quotientOf}
+use Rattle.arithmetic.specs.Power.{powerOf}
+use Rattle.arithmetic.specs.Number.{numberOf, elementOf}
 use Rattle.field.specs.House.{houseEntry}
 
 -- "accepted when m is 2 to 16 and no polynomial of degree 1 to m/2 divides it": then its degree

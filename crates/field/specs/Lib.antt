@@ -1,10 +1,6 @@
 pub mod Limits
 pub mod Refusal
-pub mod Modulus
-pub mod Choice
-pub mod Quotient
-pub mod Power
-pub mod Number
+pub mod Accepted
 pub mod House
 pub mod Calls
 pub mod Answers

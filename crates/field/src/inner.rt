@@ -1,6 +1,3 @@
-// Code that asks something of its caller (each `requires` says what), and the tests that the public calls begin with.
+// The tests that the public calls begin with, and the house table. What has a `requires` says there what it asks.
 pub mod house;
-pub mod inverse;
-pub mod logarithm;
-pub mod power;
 pub mod refusal;

@@ -11,6 +11,9 @@ pub mod refused;
 use crate::inner::refusal;
 use crate::limits::LARGEST_DEGREE;
 use crate::limits::SMALLEST_DEGREE;
+use arithmetic::inner::inverse;
+use arithmetic::inner::logarithm;
+use arithmetic::inner::power;
 use binary::inner::modulo;
 
 // Three readings of "14", each its own kind of value: going between them is a named call.
@@ -90,7 +93,7 @@ pub fn quotient(p: u32, a: Element, b: Element) -> ElementAnswer
         return ElementAnswer::TurnedDown(refused::DIVISION_BY_ZERO);
     }
     let m = refusal::degree_of(p);
-    ElementAnswer::Found(Element(inner::inverse::quotient(p, m, a.0, b.0)))
+    ElementAnswer::Found(Element(inverse::quotient(p, m, a.0, b.0)))
 }
 
 // a to any exponent; a negative one is the power of the inverse.
@@ -105,7 +108,7 @@ pub fn power(p: u32, a: Element, e: Exponent) -> ElementAnswer
         return ElementAnswer::TurnedDown(refused::DIVISION_BY_ZERO);
     }
     let m = refusal::degree_of(p);
-    ElementAnswer::Found(Element(inner::power::power(p, m, a.0, e.0)))
+    ElementAnswer::Found(Element(power::power(p, m, a.0, e.0)))
 }
 
 // The one element that squares to b.
@@ -117,7 +120,7 @@ pub fn square_root(p: u32, b: Element) -> ElementAnswer
         return ElementAnswer::TurnedDown(refused);
     }
     let m = refusal::degree_of(p);
-    ElementAnswer::Found(Element(inner::power::square_root(p, m, b.0)))
+    ElementAnswer::Found(Element(power::square_root(p, m, b.0)))
 }
 
 // 0 or 1.
@@ -129,7 +132,7 @@ pub fn trace(p: u32, c: Element) -> TraceAnswer
         return TraceAnswer::TurnedDown(refused);
     }
     let m = refusal::degree_of(p);
-    TraceAnswer::Trace(inner::power::trace(p, m, c.0))
+    TraceAnswer::Trace(power::trace(p, m, c.0))
 }
 
 // Element to logarithm number,
@@ -141,7 +144,7 @@ pub fn number_of_element(p: u32, a: Element) -> NumberAnswer
         return NumberAnswer::TurnedDown(refused);
     }
     let m = refusal::degree_of(p);
-    NumberAnswer::Found(LogNumber(inner::logarithm::number(p, m, a.0)))
+    NumberAnswer::Found(LogNumber(logarithm::number(p, m, a.0)))
 }
 
 // and back.
@@ -153,7 +156,7 @@ pub fn element_of_number(p: u32, n: LogNumber) -> ElementAnswer
         return ElementAnswer::TurnedDown(refused);
     }
     let m = refusal::degree_of(p);
-    ElementAnswer::Found(Element(inner::logarithm::element(p, m, n.0)))
+    ElementAnswer::Found(Element(logarithm::element(p, m, n.0)))
 }
 
 // Exponent to element.
@@ -165,7 +168,7 @@ pub fn power_of_x(p: u32, e: Exponent) -> ElementAnswer
         return ElementAnswer::TurnedDown(refused);
     }
     let m = refusal::degree_of(p);
-    ElementAnswer::Found(Element(inner::power::power(p, m, 2, e.0)))
+    ElementAnswer::Found(Element(power::power(p, m, 2, e.0)))
 }
 
 // The house's polynomial of a degree.

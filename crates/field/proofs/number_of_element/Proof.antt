@@ -2,7 +2,7 @@
 use mathlib.Core.Path.{sym, ap, _∙_}
 use Prim.Native.Nat.{ℕ}
 use borrow.Author.Needs.{needs}
-use Rattle.field.specs.Number.{numberOf}
+use Rattle.arithmetic.specs.Number.{numberOf}
 use Rattle.field.specs.Refusal.{elementTests}
 use Rattle.field.proofs.Refusal.{down, given, element-passed}
 use Rattle.field.proofs.Ready.{element-ready}

@@ -12,7 +12,7 @@ use mir.Val.{SFits}
 use mir.Facts.{toZ-ofZ}
 use borrow.Author.Needs.{needs}
 use Rattle.field.specs.Refusal.{_⇒_, elementTests}
-use Rattle.field.specs.Power.{powerOf}
+use Rattle.arithmetic.specs.Power.{powerOf}
 use Rattle.field.proofs.Refusal.{down-first, down-last, given-last, element-passed}
 use Rattle.field.proofs.Ready.{element-ready}
 use Rattle.field.proofs.power.Statement.{statement}

@@ -8,7 +8,7 @@ use mir.Val.{SFits}
 use mir.Facts.{toZ-ofZ}
 use borrow.Author.Needs.{needs}
 use Rattle.field.specs.Refusal.{polynomialTests}
-use Rattle.field.specs.Power.{powerOf}
+use Rattle.arithmetic.specs.Power.{powerOf}
 use Rattle.field.proofs.Refusal.{down, given, accepted}
 use Rattle.field.proofs.Ready.{polynomial-ready}
 use Rattle.field.proofs.power_of_x.Statement.{statement}

@@ -7,7 +7,7 @@ use lib.Dec.{eqb}
 use borrow.Author.Needs.{needs}
 use borrow.Author.Tests.{eq-eqb, ne-eqb}
 use Rattle.field.specs.Refusal.{_⇒_, elementsTests}
-use Rattle.field.specs.Quotient.{quotientOf}
+use Rattle.arithmetic.specs.Quotient.{quotientOf}
 use Rattle.field.proofs.Refusal.{down-first, down-last, given-last, elements-passed}
 use Rattle.field.proofs.Ready.{elements-ready}
 use Rattle.field.proofs.quotient.Statement.{statement}

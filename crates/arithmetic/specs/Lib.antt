@@ -1,0 +1,5 @@
+pub mod Modulus
+pub mod Choice
+pub mod Quotient
+pub mod Power
+pub mod Number
