@@ -4,7 +4,8 @@ use mathlib.Core.Bool.{true}
 use Prim.Native.Nat.{ℕ}
 use Rattle.algebra.specs.Expression.{Expr, O, _⊕_, _⊗_, agree}
 use Rattle.algebra.specs.Ring.{Ring2}
-use Rattle.algebra.proofs.Normal.{eval, mul-zer, identity}
+use Rattle.algebra.proofs.RingLaws.{mul-zer}
+use Rattle.algebra.proofs.Normal.{eval, identity}
 
 module _ (R : Ring2) where
   -- the equations, each with its factor c

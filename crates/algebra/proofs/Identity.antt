@@ -8,7 +8,8 @@ use mathlib.Core.List.{List, [], _∷_}
 use Prim.Native.Nat.{ℕ, zero, suc}
 use Rattle.algebra.specs.Expression.{Expr, var, O, I, _⊕_, _⊗_, sq, pow, agree}
 use Rattle.algebra.specs.Ring.{Ring2, Ring2On}
-use Rattle.algebra.proofs.Normal.{pw, eval, identity}
+use Rattle.algebra.proofs.RingLaws.{pw}
+use Rattle.algebra.proofs.Normal.{eval, identity}
 use Rattle.algebra.proofs.Given.{Given, combo, none, by, identity-given}
 
 module _ (S : Ring2On) where

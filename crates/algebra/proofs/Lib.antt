@@ -1,3 +1,4 @@
+pub mod RingLaws
 pub mod Normal
 pub mod Given
 pub mod Identity

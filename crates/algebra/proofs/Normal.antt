@@ -3,12 +3,12 @@
 use mathlib.Core.Path.{_≡_, refl, sym, _∙_, ap, ap₂, subst⁻¹}
 use mathlib.Core.Bool.{Bool, true, false}
 use Prim.Native.Nat.{ℕ, zero, suc, _+_, _/_, _%_, _<_, compare, Ordering, Ordering·lt, Ordering·eq, Ordering·gt}
-use native.Mathlib.Nat.{zero-add, suc-add}
 use native.Mathlib.Omega.{arith}
 use lib.Dec.{T, isEq, eqb→eq}
 use Rattle.algebra.specs.Expression
 use Rattle.algebra.specs.Expression.{Expr, var, O, I, _⊕_, _⊗_, sq, pow, Mono, end, _▹_, Poly, nil, _⊞_, Rows, _⊟_, rows, total, pairs, gather, shorter, forceM, force, mulF, cmp, mulM, sqM, unit, mergeIn, merge, scale, mulP, sqP, oneP, linP, oddly, powP, normal, sameP, agree}
 use Rattle.algebra.specs.Ring.{Ring2}
+use Rattle.algebra.proofs.RingLaws.{pw, zer-add, one-mul, add-left, mul-inter, cancel, mul-zer, zer-mul, add-mul, sq-add, pw-add}
 
 forceM-is : (m : Mono) (k : Mono → Poly) → forceM m k ≡ k m
 forceM-is end k = refl
@@ -19,10 +19,6 @@ force-is nil k = refl
 force-is (m ⊞ p) k = forceM-is m (λ n. force p (λ r. k (n ⊞ r))) ∙ force-is p (λ r. k (m ⊞ r))
 
 module _ (R : Ring2) where
-  abbrev pub pw : R .carrier → ℕ → R .carrier
-  pw x zero = R .one
-  pw x (suc n) = R .mul x (pw x n)
-
   abbrev pub eval : (ℕ → R .carrier) → Expr → R .carrier
   eval ρ (var i) = ρ i
   eval ρ O = R .zer
@@ -30,11 +26,11 @@ module _ (R : Ring2) where
   eval ρ (e ⊕ f) = R .add (eval ρ e) (eval ρ f)
   eval ρ (e ⊗ f) = R .mul (eval ρ e) (eval ρ f)
   eval ρ (sq e) = R .mul (eval ρ e) (eval ρ e)
-  eval ρ (pow e n) = pw (eval ρ e) n
+  eval ρ (pow e n) = pw R (eval ρ e) n
 
   evM : (ℕ → R .carrier) → Mono → R .carrier
   evM ρ end = R .one
-  evM ρ (k ▹ m) = R .mul (pw (ρ 0) k) (evM (λ i. ρ (suc i)) m)
+  evM ρ (k ▹ m) = R .mul (pw R (ρ 0) k) (evM (λ i. ρ (suc i)) m)
 
   evP : (ℕ → R .carrier) → Poly → R .carrier
   evP ρ nil = R .zer
@@ -44,59 +40,14 @@ module _ (R : Ring2) where
   evR ρ Rows.none = R .zer
   evR ρ (p ⊟ r) = R .add (evP ρ p) (evR ρ r)
 
-  -- the ring's laws, a little further
-  zer-add : (a : R .carrier) → R .add (R .zer) a ≡ a
-  zer-add a = R .add-comm (R .zer) a ∙ R .add-zer a
-
-  one-mul : (a : R .carrier) → R .mul (R .one) a ≡ a
-  one-mul a = R .mul-comm (R .one) a ∙ R .mul-one a
-
-  add-left : (a b c : R .carrier) → R .add a (R .add b c) ≡ R .add b (R .add a c)
-  add-left a b c = sym (R .add-assoc a b c) ∙ ap (λ (x : R .carrier). R .add x c) (R .add-comm a b) ∙ R .add-assoc b a c
-
-  mul-left : (a b c : R .carrier) → R .mul a (R .mul b c) ≡ R .mul b (R .mul a c)
-  mul-left a b c = sym (R .mul-assoc a b c) ∙ ap (λ (x : R .carrier). R .mul x c) (R .mul-comm a b) ∙ R .mul-assoc b a c
-
-  add-inter : (a b c d : R .carrier) → R .add (R .add a b) (R .add c d) ≡ R .add (R .add a c) (R .add b d)
-  add-inter a b c d = R .add-assoc a b (R .add c d) ∙ ap (R .add a) (add-left b c d) ∙ sym (R .add-assoc a c (R .add b d))
-
-  mul-inter : (a b c d : R .carrier) → R .mul (R .mul a b) (R .mul c d) ≡ R .mul (R .mul a c) (R .mul b d)
-  mul-inter a b c d = R .mul-assoc a b (R .mul c d) ∙ ap (R .mul a) (mul-left b c d) ∙ sym (R .mul-assoc a c (R .mul b d))
-
-  cancel : (a b c : R .carrier) → R .add (R .add a b) (R .add a c) ≡ R .add b c
-  cancel a b c = add-inter a b a c ∙ ap (λ (x : R .carrier). R .add x (R .add b c)) (R .add-self a) ∙ zer-add (R .add b c)
-
-  pub mul-zer : (a : R .carrier) → R .mul a (R .zer) ≡ R .zer
-  mul-zer a = ap (R .mul a) (sym (R .add-self (R .zer))) ∙ R .mul-add a (R .zer) (R .zer) ∙ R .add-self (R .mul a (R .zer))
-
-  zer-mul : (a : R .carrier) → R .mul (R .zer) a ≡ R .zer
-  zer-mul a = R .mul-comm (R .zer) a ∙ mul-zer a
-
-  add-mul : (a b c : R .carrier) → R .mul (R .add a b) c ≡ R .add (R .mul a c) (R .mul b c)
-  add-mul a b c = R .mul-comm (R .add a b) c ∙ R .mul-add c a b ∙ ap₂ (R .add) (R .mul-comm c a) (R .mul-comm c b)
-
-  -- the square of a sum
-  sq-add : (a b : R .carrier) → R .mul (R .add a b) (R .add a b) ≡ R .add (R .mul a a) (R .mul b b)
-  sq-add a b =
-      add-mul a b (R .add a b)
-      ∙ ap₂ (R .add) (R .mul-add a a b ∙ R .add-comm (R .mul a a) (R .mul a b)) (R .mul-add b a b ∙ ap (λ (x : R .carrier). R .add x (R .mul b b)) (R .mul-comm b a))
-      ∙ cancel (R .mul a b) (R .mul a a) (R .mul b b)
-
-  pw-add : (x : R .carrier) (j k : ℕ) → pw x (j + k) ≡ R .mul (pw x j) (pw x k)
-  pw-add x zero k = ap (pw x) (zero-add k) ∙ sym (one-mul (pw x k))
-  pw-add x (suc j) k = ap (pw x) (suc-add j k) ∙ ap (R .mul x) (pw-add x j k) ∙ sym (R .mul-assoc x (pw x j) (pw x k))
-
-  pw-double : (x : R .carrier) (k : ℕ) → pw x (k + k) ≡ R .mul (pw x k) (pw x k)
-  pw-double x k = pw-add x k k
-
   -- monomials
   cmp-step : (ρ : ℕ → R .carrier) (j : ℕ) (m : Mono) (k : ℕ) (n : Mono)
       → (T (isEq (cmp m n)) → evM (λ i. ρ (suc i)) m ≡ evM (λ i. ρ (suc i)) n)
       → (o : Ordering) → compare j k ≡ o
       → T (isEq (elim o [ Ordering·lt ↦ Ordering·lt | Ordering·eq ↦ cmp m n | Ordering·gt ↦ Ordering·gt ]))
-      → R .mul (pw (ρ 0) j) (evM (λ i. ρ (suc i)) m) ≡ R .mul (pw (ρ 0) k) (evM (λ i. ρ (suc i)) n)
+      → R .mul (pw R (ρ 0) j) (evM (λ i. ρ (suc i)) m) ≡ R .mul (pw R (ρ 0) k) (evM (λ i. ρ (suc i)) n)
   cmp-step ρ j m k n ih Ordering·lt e t = absurd t
-  cmp-step ρ j m k n ih Ordering·eq e t = ap₂ (R .mul) (ap (pw (ρ 0)) (eqb→eq j k (subst⁻¹ (λ (o : Ordering). T (isEq o)) e tt))) (ih t)
+  cmp-step ρ j m k n ih Ordering·eq e t = ap₂ (R .mul) (ap (pw R (ρ 0)) (eqb→eq j k (subst⁻¹ (λ (o : Ordering). T (isEq o)) e tt))) (ih t)
   cmp-step ρ j m k n ih Ordering·gt e t = absurd t
 
   cmp-ok : (ρ : ℕ → R .carrier) (m n : Mono) → T (isEq (cmp m n)) → evM ρ m ≡ evM ρ n
@@ -108,23 +59,23 @@ module _ (R : Ring2) where
 
   mulM-ok : (ρ : ℕ → R .carrier) (m n : Mono) → evM ρ (mulM m n) ≡ R .mul (evM ρ m) (evM ρ n)
   unfolding evM
-  mulM-ok ρ end n = sym (one-mul (evM ρ n))
+  mulM-ok ρ end n = sym (one-mul R (evM ρ n))
   mulM-ok ρ (j ▹ m) end = sym (R .mul-one (evM ρ (j ▹ m)))
   mulM-ok ρ (j ▹ m) (k ▹ n) =
-      ap₂ (R .mul) (pw-add (ρ 0) j k) (mulM-ok (λ i. ρ (suc i)) m n)
-      ∙ mul-inter (pw (ρ 0) j) (pw (ρ 0) k) (evM (λ i. ρ (suc i)) m) (evM (λ i. ρ (suc i)) n)
+      ap₂ (R .mul) (pw-add R (ρ 0) j k) (mulM-ok (λ i. ρ (suc i)) m n)
+      ∙ mul-inter R (pw R (ρ 0) j) (pw R (ρ 0) k) (evM (λ i. ρ (suc i)) m) (evM (λ i. ρ (suc i)) n)
 
   sqM-ok : (ρ : ℕ → R .carrier) (m : Mono) → evM ρ (sqM m) ≡ R .mul (evM ρ m) (evM ρ m)
   unfolding evM
   sqM-ok ρ end = sym (R .mul-one (R .one))
   sqM-ok ρ (k ▹ m) =
-      ap₂ (R .mul) (pw-add (ρ 0) k k) (sqM-ok (λ i. ρ (suc i)) m)
-      ∙ mul-inter (pw (ρ 0) k) (pw (ρ 0) k) (evM (λ i. ρ (suc i)) m) (evM (λ i. ρ (suc i)) m)
+      ap₂ (R .mul) (pw-add R (ρ 0) k k) (sqM-ok (λ i. ρ (suc i)) m)
+      ∙ mul-inter R (pw R (ρ 0) k) (pw R (ρ 0) k) (evM (λ i. ρ (suc i)) m) (evM (λ i. ρ (suc i)) m)
 
   unit-ok : (ρ : ℕ → R .carrier) (i : ℕ) → evM ρ (unit i) ≡ ρ i
   unfolding evM
   unit-ok ρ zero = R .mul-one (R .mul (ρ 0) (R .one)) ∙ R .mul-one (ρ 0)
-  unit-ok ρ (suc i) = one-mul (evM (λ k. ρ (suc k)) (unit i)) ∙ unit-ok (λ k. ρ (suc k)) i
+  unit-ok ρ (suc i) = one-mul R (evM (λ k. ρ (suc k)) (unit i)) ∙ unit-ok (λ k. ρ (suc k)) i
 
   -- polynomials
   module _ (ρ : ℕ → R .carrier) where
@@ -138,11 +89,11 @@ module _ (R : Ring2) where
         ap (R .add (evM ρ m)) (h (n ⊞ q)) ∙ sym (R .add-assoc (evM ρ m) (evP ρ p) (R .add (evM ρ n) (evP ρ q)))
     merge-step m p rec h n q ih Ordering·eq e =
         h q
-        ∙ sym (cancel (evM ρ m) (evP ρ p) (evP ρ q))
+        ∙ sym (cancel R (evM ρ m) (evP ρ p) (evP ρ q))
         ∙ ap (λ (x : R .carrier). R .add (R .add (evM ρ m) (evP ρ p)) (R .add x (evP ρ q)))
         (cmp-ok ρ m n (subst⁻¹ (λ (o : Ordering). T (isEq o)) e tt))
     merge-step m p rec h n q ih Ordering·gt e =
-        ap (R .add (evM ρ n)) ih ∙ add-left (evM ρ n) (R .add (evM ρ m) (evP ρ p)) (evP ρ q)
+        ap (R .add (evM ρ n)) ih ∙ add-left R (evM ρ n) (R .add (evM ρ m) (evP ρ p)) (evP ρ q)
 
     mergeIn-ok : (m : Mono) (p : Poly) (rec : Poly → Poly) → ((q : Poly) → evP ρ (rec q) ≡ R .add (evP ρ p) (evP ρ q))
         → (q : Poly) → evP ρ (mergeIn m p rec q) ≡ R .add (R .add (evM ρ m) (evP ρ p)) (evP ρ q)
@@ -152,18 +103,18 @@ module _ (R : Ring2) where
 
     merge-ok : (p q : Poly) → evP ρ (merge p q) ≡ R .add (evP ρ p) (evP ρ q)
     unfolding evP
-    merge-ok nil q = sym (zer-add (evP ρ q))
+    merge-ok nil q = sym (zer-add R (evP ρ q))
     merge-ok (m ⊞ p) q = mergeIn-ok m p (λ r. merge p r) (λ r. merge-ok p r) q
 
     scale-ok : (m : Mono) (q : Poly) → evP ρ (scale m q) ≡ R .mul (evM ρ m) (evP ρ q)
     unfolding evP
-    scale-ok m nil = sym (mul-zer (evM ρ m))
+    scale-ok m nil = sym (mul-zer R (evM ρ m))
     scale-ok m (n ⊞ q) = ap₂ (R .add) (mulM-ok ρ m n) (scale-ok m q) ∙ sym (R .mul-add (evM ρ m) (evM ρ n) (evP ρ q))
 
     sqP-ok : (p : Poly) → evP ρ (sqP p) ≡ R .mul (evP ρ p) (evP ρ p)
     unfolding evP
-    sqP-ok nil = sym (mul-zer (R .zer))
-    sqP-ok (m ⊞ p) = ap₂ (R .add) (sqM-ok ρ m) (sqP-ok p) ∙ sym (sq-add (evM ρ m) (evP ρ p))
+    sqP-ok nil = sym (mul-zer R (R .zer))
+    sqP-ok (m ⊞ p) = ap₂ (R .add) (sqM-ok ρ m) (sqP-ok p) ∙ sym (sq-add R (evM ρ m) (evP ρ p))
 
     oneP-ok : evP ρ oneP ≡ R .one
     unfolding evP evM
@@ -179,8 +130,8 @@ module _ (R : Ring2) where
 
     rows-ok : (p q : Poly) → evR ρ (rows p q) ≡ R .mul (evP ρ p) (evP ρ q)
     unfolding evP evR
-    rows-ok nil q = sym (zer-mul (evP ρ q))
-    rows-ok (m ⊞ p) q = ap₂ (R .add) (scale-ok m q) (rows-ok p q) ∙ sym (add-mul (evM ρ m) (evP ρ p) (evP ρ q))
+    rows-ok nil q = sym (zer-mul R (evP ρ q))
+    rows-ok (m ⊞ p) q = ap₂ (R .add) (scale-ok m q) (rows-ok p q) ∙ sym (add-mul R (evM ρ m) (evP ρ p) (evP ρ q))
 
     total-ok : (r : Rows) → evP ρ (total r) ≡ evR ρ r
     unfolding evP evR
@@ -210,26 +161,26 @@ module _ (R : Ring2) where
         ap (evP ρ) (force-is p (λ a. force q (λ b. mulF a b)) ∙ force-is q (λ b. mulF p b))
         ∙ mulP-by p q (shorter p q)
 
-    linP-ok : (p : Poly) (n : ℕ) → evP ρ (linP p n) ≡ pw (evP ρ p) n
+    linP-ok : (p : Poly) (n : ℕ) → evP ρ (linP p n) ≡ pw R (evP ρ p) n
     linP-ok p zero = oneP-ok
     linP-ok p (suc n) = mulP-ok p (linP p n) ∙ ap (R .mul (evP ρ p)) (linP-ok p n)
 
     -- r is what is left of n divided by two, h the quotient
-    oddly-ok : (p s : Poly) (x : R .carrier) → evP ρ p ≡ x → (h : ℕ) → evP ρ s ≡ pw x (h + h) → (r n : ℕ) → h + h + r ≡ n → r < 2
-        → evP ρ (oddly r p s) ≡ pw x n
+    oddly-ok : (p s : Poly) (x : R .carrier) → evP ρ p ≡ x → (h : ℕ) → evP ρ s ≡ pw R x (h + h) → (r n : ℕ) → h + h + r ≡ n → r < 2
+        → evP ρ (oddly r p s) ≡ pw R x n
     oddly-ok p s x ep h es zero n en l =
         let e : h + h ≡ n = omega arith in
-        es ∙ ap (pw x) e
+        es ∙ ap (pw R x) e
     oddly-ok p s x ep h es (suc r) n en l =
         let e : suc (h + h) ≡ n = omega arith in
-        mulP-ok p s ∙ ap₂ (R .mul) ep es ∙ ap (pw x) e
+        mulP-ok p s ∙ ap₂ (R .mul) ep es ∙ ap (pw R x) e
 
-    powP-ok : (f : ℕ) (p : Poly) (n : ℕ) → evP ρ (powP f p n) ≡ pw (evP ρ p) n
+    powP-ok : (f : ℕ) (p : Poly) (n : ℕ) → evP ρ (powP f p n) ≡ pw R (evP ρ p) n
     powP-ok zero p n = linP-ok p n
     powP-ok (suc f) p zero = oneP-ok
     powP-ok (suc f) p (suc n) =
         oddly-ok p (sqP (powP f p (suc n / 2))) (evP ρ p) refl (suc n / 2)
-        (sqP-ok (powP f p (suc n / 2)) ∙ ap₂ (R .mul) (powP-ok f p (suc n / 2)) (powP-ok f p (suc n / 2)) ∙ sym (pw-add (evP ρ p) (suc n / 2) (suc n / 2)))
+        (sqP-ok (powP f p (suc n / 2)) ∙ ap₂ (R .mul) (powP-ok f p (suc n / 2)) (powP-ok f p (suc n / 2)) ∙ sym (pw-add R (evP ρ p) (suc n / 2) (suc n / 2)))
         (suc n % 2) (suc n) (omega arith) (omega arith)
 
     normal-ok : (e : Expr) → evP ρ (normal e) ≡ eval ρ e
@@ -242,7 +193,7 @@ module _ (R : Ring2) where
     normal-ok (pow e n) =
         ap (evP ρ) (force-is (normal e) (λ p. powP 64 p n))
         ∙ powP-ok 64 (normal e) n
-        ∙ ap (λ (x : R .carrier). pw x n) (normal-ok e)
+        ∙ ap (λ (x : R .carrier). pw R x n) (normal-ok e)
 
   same-step : (ρ : ℕ → R .carrier) (m n : Mono) (p q : Poly) → (sameP p q ≡ true → evP ρ p ≡ evP ρ q)
       → (o : Ordering) → cmp m n ≡ o

@@ -1,6 +1,6 @@
 -- What a search finds (`first-is`, `first-none`, `first-passes`, `first-misses`), and what a test of all numbers below n shows (`everyBelow`). Assumes nothing.
-use mathlib.Core.Path.{_≡_, refl, sym, ap, _∙_}
-use mathlib.Core.Bool.{Bool, true, false, _&&_, and-false, false≢true}
+use mathlib.Core.Path.{_≡_, refl, ap, _∙_}
+use mathlib.Core.Bool.{Bool, true, false, _&&_, and-false}
 use mathlib.Core.Logic.{_⊎_, inl, inr}
 use Prim.Native.Nat.{ℕ, zero, suc, _+_, _≤_, _<_}
 use native.Mathlib.Nat.{eq-or-lt-of-le}
@@ -75,10 +75,3 @@ module _ (f : ℕ → Bool) where
       go : (suc k ≡ suc n) ⊎ (suc k < suc n) → (k < n → everyBelow f n ≡ false) → (f n && everyBelow f n) ≡ false
       go (inl q) rest = let w : n ≡ k = omega arith in rw (ap f w ∙ e)
       go (inr w) rest = rw (rest (omega arith)) (and-false (f n))
-
-  pub below-every : (n k : ℕ) → everyBelow f n ≡ true → k < n → f k ≡ true
-  below-every n k e l = go (f k) refl
-    where
-      go : (b : Bool) → f k ≡ b → f k ≡ true
-      go true q = q
-      go false q = absurd (false≢true (sym (not-every-below n k l q) ∙ e))

@@ -109,9 +109,6 @@ module _ (m p : ℕ) (dp : Degree m p) where
   pub remainder-of : (q r : ℕ) → r < 2 ^ m → remainder (times q p ⊕ r) p ≡ r
   remainder-of q r h = let x = times q p ⊕ r in division-unique (quotient x p) (remainder x p) q r (remainder-lt x) h (division x) .1
 
-  pub quotient-of : (q r : ℕ) → r < 2 ^ m → quotient (times q p ⊕ r) p ≡ q
-  quotient-of q r h = let x = times q p ⊕ r in division-unique (quotient x p) (remainder x p) q r (remainder-lt x) h (division x) .0
-
   pub remainder-small : (r : ℕ) → r < 2 ^ m → remainder r p ≡ r
   remainder-small r h = rw (zero-times, zero-xor) at (remainder-of 0 r h)
 

@@ -83,9 +83,6 @@ xor-twice a b = sym (xor-assoc a a b) ∙ simp (xor-self, zero-xor)
 
 pub ruleset ac = (xor-assoc, xor-comm, xor-left-comm, xor-self, xor-twice, zero-xor, xor-zero)
 
-pub xor-cancel : (a b c : ℕ) → a ⊕ b ≡ a ⊕ c → b ≡ c
-xor-cancel a b c e = sym (xor-twice a b) ∙ ap (λ (x : ℕ). a ⊕ x) e ∙ xor-twice a c
-
 pub equal-of-xor : (a b : ℕ) → a ⊕ b ≡ 0 → a ≡ b
 equal-of-xor a b e = sym (xor-zero a) ∙ ap (λ (x : ℕ). a ⊕ x) (sym e) ∙ xor-twice a b
 

@@ -158,10 +158,6 @@ pub too-large : (p a : ℕ) → 2 ^ degreeOf p ≤ a → tooLarge p a ≡ true
 unfolding tooLarge
 too-large p a h = le-leb (2 ^ degreeOf p) a h
 
-pub not-too-large : (p a : ℕ) → a < 2 ^ degreeOf p → tooLarge p a ≡ false
-unfolding tooLarge
-not-too-large p a h = lt-leb (2 ^ degreeOf p) a h
-
 small : (p a : ℕ) → tooLarge p a ≡ false → a < 2 ^ degreeOf p
 small p a e = go (decLe (2 ^ degreeOf p) a)
   where

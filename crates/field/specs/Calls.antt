@@ -12,7 +12,7 @@ use Rattle.binary.specs.Factor.{degreeOf}
 use Rattle.galois.specs.Power.{power}
 use Rattle.galois.specs.Trace.{trace}
 use Rattle.field.specs.Limits.{smallestDegree, largestDegree}
-use Rattle.field.specs.Refusal.{_⇒_, Outcome, outcome, tooLarge, polynomialTests, elementTests, elementsTests}
+use Rattle.field.specs.Refusal.{_⇒_, Outcome, outcome, polynomialTests, elementTests, elementsTests}
 use Rattle.arithmetic.specs.Quotient.{quotientOf}
 use Rattle.arithmetic.specs.Power.{powerOf}
 use Rattle.arithmetic.specs.Number.{numberOf, elementOf}

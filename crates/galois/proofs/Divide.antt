@@ -104,10 +104,6 @@ module _ (m p : ℕ) (F : Field m p) where
   unfolding withRoot
   withoutRoot-withRoot r f = withoutRoot-unique r 0 f
 
-  -- a factor x + r is taken out in one way only
-  pub withRoot-injective : (r : ℕ) (f g : List ℕ) → withRoot p r f ≡ withRoot p r g → f ≡ g
-  withRoot-injective r f g e = sym (withoutRoot-withRoot r f) ∙ ap (withoutRoot p r) e ∙ withoutRoot-withRoot r g
-
   shifted-sums : (r b : ℕ) (f : List ℕ) → shifted p r b (sums p r f) ≡ (b ⊕ product p r (value p f r)) ∷ f
   unfolding shifted sums value
   shifted-sums r b [] = ap (λ (v : ℕ). v ∷ []) (sym (ap (λ (v : ℕ). b ⊕ v) (product-zero p r) ∙ xor-zero b))

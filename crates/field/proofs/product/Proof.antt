@@ -22,7 +22,10 @@ product-requires : tie.Need-product-requires
 product-requires c κs =
     let a = c .before .before .before .args in
     let q = elements-ready (c .degree-of .result) (a .p) (c .degree-of .ensures) (a .a .0) (a .b .0) _ (c .before .before .of-elements .ensures) (c .before .if1 .left) in
-    (q .0 .modulus, q .1, q .2)
+    let M = q .0 .modulus in
+    let ha = q .1 in
+    let hb = q .2 in
+    search needs
 
 returns-2 : tie.Need-returns-2
 returns-2 c =

@@ -9,7 +9,7 @@ inverse-requires : tie.Need-inverse-requires
 inverse-requires c κs = search needs
 
 product-requires : tie.Need-product-requires
-product-requires c κs = (c .before .pre .0 .modulus, c .before .pre .1, c .inverse .ensures .1)
+product-requires c κs = search needs
 
 returns : tie.Need-returns
 returns c =

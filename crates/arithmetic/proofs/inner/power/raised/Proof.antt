@@ -2,6 +2,7 @@
 use mathlib.Core.Path.{_≡_, sym, ap, ap₂, _∙_}
 use Prim.Native.Nat.{ℕ, _/_, _%_, _<_, _^_}
 use native.Mathlib.Omega.{arith}
+use borrow.Author.Needs.{needs}
 use Rattle.binary.specs.Product.{product}
 use Rattle.binary.proofs.Product.{product-lt, product-one, one-product, product-assoc}
 use Rattle.galois.specs.Field.{Field}
@@ -52,8 +53,7 @@ times-digit-requires : tie.Need-times-digit-requires Inv-loop μ-loop
 times-digit-requires c κs = (c .before .before .pre .0, omega arith, c .before .loop .inv .done, c .before .loop .inv .small)
 
 product-requires : tie.Need-product-requires Inv-loop μ-loop
-product-requires c κs =
-    (c .before .before .before .pre .0 .modulus, c .before .before .loop .inv .small, c .before .before .loop .inv .small)
+product-requires c κs = search needs
 
 loop-less : tie.Need-loop-less Inv-loop μ-loop
 loop-less c = omega arith

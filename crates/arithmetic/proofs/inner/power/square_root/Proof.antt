@@ -42,8 +42,7 @@ loop-holds : tie.Need-loop-holds Inv-loop μ-loop
 loop-holds c = start (c .args .m) (c .args .p) (c .args .b) (omega (arith, c .pre .0 .modulus .two)) (c .pre .1)
 
 product-requires : tie.Need-product-requires Inv-loop μ-loop
-product-requires c κs =
-    (c .before .before .pre .0 .modulus, c .before .loop .inv .small, c .before .loop .inv .small)
+product-requires c κs = search needs
 
 add-k : tie.Need-add-k Inv-loop μ-loop
 add-k c = search needs

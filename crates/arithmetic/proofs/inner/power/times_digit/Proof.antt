@@ -2,6 +2,7 @@
 use mathlib.Core.Path.{_≡_, sym, ap, _∙_}
 use Prim.Native.Nat.{ℕ, _<_, _^_}
 use native.Mathlib.Omega.{arith}
+use borrow.Author.Needs.{needs}
 use Rattle.binary.specs.Product.{product}
 use Rattle.binary.proofs.Product.{product-one}
 use Rattle.galois.specs.Field.{Field}
@@ -24,7 +25,7 @@ returns c =
     none (a .m) (a .p) (a .result) (a .x) (a .digit) (q .0 .field) (q .2) (c .if1 .taken)
 
 product-requires : tie.Need-product-requires
-product-requires c κs = let q = c .before .pre in (q .0 .modulus, q .2, q .3)
+product-requires c κs = search needs
 
 returns-2 : tie.Need-returns-2
 returns-2 c =

@@ -1,5 +1,5 @@
 -- `remainder` meets its contract: after each turn the rest is a number with a's remainder, one place higher. Assumes nothing.
-use Prim.Native.Nat.{ℕ, _-_, _≤_}
+use Prim.Native.Nat.{_-_, _≤_}
 use native.Mathlib.Omega.{arith}
 use borrow.Author.Needs.{needs}
 use Rattle.binary.proofs.Aligned.{Aligned, divisor-degree, aligned-start, aligned-lt, aligned-turn, aligned-end}
