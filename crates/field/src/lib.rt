@@ -60,6 +60,7 @@ pub fn accept(p: u32) -> DegreeAnswer
     DegreeAnswer::Degree(refusal::degree_of(p))
 }
 
+// The exclusive or of two elements.
 pub fn sum(p: u32, a: Element, b: Element) -> ElementAnswer
     ensures { λ r. ⌜ ofElement r ≡ sumOutcome p (a .0) (b .0) ⌝ }
 {
@@ -70,6 +71,7 @@ pub fn sum(p: u32, a: Element, b: Element) -> ElementAnswer
     ElementAnswer::Found(Element(a.0 ^ b.0))
 }
 
+// The product of two elements, modulo the field polynomial.
 pub fn product(p: u32, a: Element, b: Element) -> ElementAnswer
     ensures { λ r. ⌜ ofElement r ≡ productOutcome p (a .0) (b .0) ⌝ }
 {

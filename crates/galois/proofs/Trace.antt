@@ -58,11 +58,11 @@ module _ (m p : ℕ) (F : Field m p) where
   pub trace-square : (c : ℕ) → c < 2 ^ m → trace m p (product p c c) ≡ trace m p c
   unfolding partTrace
   trace-square c h =
-      gf2-move c (partTrace p m (product p c c)) (partTrace p m c ⊕ c)
+      moved c (partTrace p m (product p c c)) (partTrace p m c ⊕ c)
       (sym (partTrace-front p m c) ∙ ap (λ (x : ℕ). partTrace p m c ⊕ x) (squares-all m p F c h)) ∙ (simp ac)
     where
-      gf2-move : (a b d : ℕ) → a ⊕ b ≡ d → b ≡ a ⊕ d
-      gf2-move a b d e = sym (simp ac) ∙ ap (λ (x : ℕ). a ⊕ x) e
+      moved : (a b d : ℕ) → a ⊕ b ≡ d → b ≡ a ⊕ d
+      moved a b d e = sym (simp ac) ∙ ap (λ (x : ℕ). a ⊕ x) e
 
   -- what is its own square is 0 or 1
   pub zero-or-one : (t : ℕ) → t < 2 ^ m → product p t t ≡ t → (t ≡ 0) ⊎ (t ≡ 1)
