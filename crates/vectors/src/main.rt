@@ -1,6 +1,6 @@
 // Runs the public calls of `field` on the rows of standard input, a call a line: its name and its numbers, as `power 19 2 -1`. Each line
-// is written back with what the call answered. The stored output was made by a program of another kind, which tries every element, so
-// the gate compares the two.
+// is written back with what the call answered. The gate compares that with the stored output, which an independent model made: it finds
+// quotients, inverses and square roots by trying every element and computes the rest directly; the house rows are document 01's list.
 use field::DegreeAnswer;
 use field::Element;
 use field::ElementAnswer;
