@@ -1,7 +1,7 @@
 -- Identities on a part of a type: the ring laws hold for the elements that are In, and the operations stay there.
 -- `ring-on` proves an identity between such elements by computing two normal forms, `ring-on-given` one that rests on assumed
--- equations, `value-in` that any expression stays In. (The pairs of an element and its proof are a ring.) Assumes nothing.
-use mathlib.Core.Path.{_≡_, refl, sym, _∙_, ap, ap₂, subst}
+-- equations. (The pairs of an element and its proof are a ring.) Assumes nothing.
+use mathlib.Core.Path.{_≡_, refl, sym, _∙_, ap, ap₂}
 use mathlib.Core.HLevel.{Σ-prop-path}
 use mathlib.Core.Bool.{true}
 use mathlib.Core.List.{List, [], _∷_}
@@ -79,10 +79,6 @@ module _ (S : Ring2On) where
       sym (value-is (elem xs) e)
       ∙ ap (λ (u : Elem). u .0) (identity whole e f (elem xs) h)
       ∙ value-is (elem xs) f
-
-  -- and the value of any expression is In
-  pub value-in : (xs : List Elem) (e : Expr) → S .In (valueAt xs e)
-  value-in xs e = subst (S .In) (value-is (elem xs) e) ((eval whole (elem xs) e) .1)
 
   -- with equations that are assumed
   pub data GivenOn (xs : List Elem) : Type 0 where

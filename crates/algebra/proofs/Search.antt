@@ -1,4 +1,4 @@
--- What a search finds (`first-is`, `first-none`, `first-passes`, `first-misses`), and what a test of all numbers below n shows (`everyBelow`). Assumes nothing.
+-- What a search finds (`first-is`, `first-none`, `found`), and what a test of all numbers below n shows (`everyBelow`). Assumes nothing.
 use mathlib.Core.Path.{_≡_, refl, ap, _∙_}
 use mathlib.Core.Bool.{Bool, true, false, _&&_, and-false}
 use mathlib.Core.Logic.{_⊎_, inl, inr}
@@ -44,21 +44,6 @@ module _ (f : ℕ → Bool) where
       go (inl r) b e = let l = r .1 in inl (r .0, omega arith, r .2, r .3)
       go (inr h) true e = inl (n, omega arith, e, h)
       go (inr h) false e = inr (λ j l. below-more (λ j. f j ≡ false) n h e j (omega arith))
-
-  -- what is found passes, and nothing before it does
-  pub first-passes : (n : ℕ) → first f n < n → f (first f n) ≡ true
-  first-passes n l = go (found n)
-    where
-      go : ((k : ℕ) × (k < n) × (f k ≡ true) × ((j : ℕ) → j < k → f j ≡ false)) ⊎ ((j : ℕ) → j < n → f j ≡ false) → f (first f n) ≡ true
-      go (inl r) = ap f (first-is n (r .0) (r .1) (r .2) (r .3)) ∙ r .2
-      go (inr h) = let e = first-none n h in absurd (omega arith)
-
-  pub first-misses : (n : ℕ) → n ≤ first f n → (j : ℕ) → j < n → f j ≡ false
-  first-misses n l = go (found n)
-    where
-      go : ((k : ℕ) × (k < n) × (f k ≡ true) × ((j : ℕ) → j < k → f j ≡ false)) ⊎ ((j : ℕ) → j < n → f j ≡ false) → (j : ℕ) → j < n → f j ≡ false
-      go (inl r) j k = let e = first-is n (r .0) (r .1) (r .2) (r .3) in let w = r .1 in absurd (omega arith)
-      go (inr h) j k = h j k
 
   -- every one passes
   pub every-below : (n : ℕ) → ((j : ℕ) → j < n → f j ≡ true) → everyBelow f n ≡ true

@@ -1,4 +1,4 @@
--- Where p is irreducible: no divisor of degree 1 to m - 1 at all (`no-factor`), and every element but 0 has an inverse (A5), found by
+-- Where p is irreducible: no divisor of degree 1 to m - 1 at all (`no-factor`, `no-divisor`), and every element but 0 has an inverse (A5), found by
 -- dividing p again and again; so no zero divisors, and cancellation. Assumes nothing.
 use mathlib.Core.Path.{_≡_, sym, ap, _∙_, subst}
 use mathlib.Core.Logic.{_≢_}
@@ -60,6 +60,10 @@ module _ (m p : ℕ) (I : Irreducible m p) where
       pick (no g) =
           I .prime q (two-le j q dj (omega (arith, s))) (small j q dj (omega (arith, s)))
           (ap (λ (x : ℕ). remainder x q) (sym e ∙ times-comm q a) ∙ remainder-of-multiple j q dj a)
+
+  -- the same, said of products
+  pub no-divisor : (i d q : ℕ) → Degree i d → 1 ≤ i → i < m → times q d ≢ p
+  no-divisor i d q h l k e = no-factor i d h l k (ap (λ (x : ℕ). remainder x d) (sym e) ∙ remainder-of-multiple i d h q)
 
   -- an inverse of the remainder of p by a gives one of a
   from-remainder : (i a s : ℕ) → Degree i a → product p (remainder p a) s ≡ 1 → product p a (remainder (times (quotient p a) s) p) ≡ 1

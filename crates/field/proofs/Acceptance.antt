@@ -10,7 +10,7 @@ use Rattle.binary.specs.Xor.{Degree}
 use Rattle.binary.specs.Times.{times}
 use Rattle.binary.specs.Factor.{degreeOf, factorFree}
 use Rattle.binary.proofs.Xor.{has-degree, exp-lt}
-use Rattle.binary.proofs.Inverse.{no-factor}
+use Rattle.binary.proofs.Inverse.{no-divisor}
 use Rattle.binary.proofs.Factor.{degree-is, divides-times, factor-free}
 use Rattle.field.specs.Limits.{smallestDegree, largestDegree, polynomialFloor, polynomialCeiling}
 use Rattle.field.specs.Refusal.{gives, unlessRefused, refusal, polynomialTests}
@@ -51,7 +51,7 @@ accept-exactly p = (only, if)
         record {
           floor = R .0;
           ceiling = R .1;
-          prime = λ i d q h l k f. no-factor (degreeOf p) p (A .ready .field .irr) i d h l k (divides-times i d p h .1 (q, f));
+          prime = no-divisor (degreeOf p) p (A .ready .field .irr);
         }
 
     if : Acceptable p → acceptOutcome p ≡ gives (degreeOf p)
@@ -69,6 +69,6 @@ house-accepted d h l =
     record {
       floor = omega (arith, I .degree .0);
       ceiling = omega (arith, I .degree .1);
-      prime = λ i c q k u v f. no-factor d (houseEntry d) I i c k u (omega arith) (divides-times i c (houseEntry d) k .1 (q, f));
+      prime = λ i c q k u v. no-divisor d (houseEntry d) I i c q k u (omega arith);
     } in
     accept-exactly (houseEntry d) .1 C ∙ ap gives e

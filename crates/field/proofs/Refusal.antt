@@ -1,5 +1,5 @@
--- The tests of a call: `refusal-kept` and `refusal-append` for tests that follow others, `accepted` for what a polynomial that passes is,
--- `element-small` for an element that passes. Assumes nothing.
+-- The tests of a call: `then-kept`, `then-applies` and `then-passes` for one more test after others, `down` and `given` for what a call
+-- then says, `passes` for tests that turn nothing down, `accepted` and `element-passed` for what has passed. Assumes nothing.
 use mathlib.Core.Path.{_≡_, refl, sym, ap, _∙_}
 use mathlib.Core.Logic.{_≢_}
 use mathlib.Core.Bool.{Bool, true, false, not, false≢true, or-true}
@@ -8,6 +8,7 @@ use Prim.Native.Nat.{ℕ, zero, suc, _^_, _≤_, _<_}
 use native.Mathlib.Decide.{decLt, decLe}
 use native.Mathlib.Omega.{arith}
 use lib.Dec.{T, ltb}
+use borrow.Author.Needs.{needs}
 use borrow.Author.Tests.{lt-ltb, le-ltb, le-leb, lt-leb}
 use Rattle.binary.specs.Xor.{Degree}
 use Rattle.binary.specs.Product.{Modulus}
@@ -36,20 +37,18 @@ refusal-append ((true ⇒ suc n) ∷ ts) us t h = absurd (omega arith)
 refusal-append ((false ⇒ zero) ∷ ts) us t h = absurd t
 refusal-append ((false ⇒ suc n) ∷ ts) us t h = refusal-append ts us t h
 
--- where tests with others after them turn nothing down, they turn nothing down themselves, nor do the others
-pub refusal-front : (ts us : List Test) → T (proper ts) → refusal (ts ++ us) ≡ 0 → refusal ts ≡ 0
-refusal-front [] us t h = refl
-refusal-front ((true ⇒ n) ∷ ts) us t h = h
-refusal-front ((false ⇒ zero) ∷ ts) us t h = absurd t
-refusal-front ((false ⇒ suc n) ∷ ts) us t h = refusal-front ts us t h
+-- no test applies
+abbrev pub Pass : List Test → Type 0
+Pass [] = Unit {0}
+Pass ((b ⇒ n) ∷ ts) = (b ≡ false) × Pass ts
 
-pub refusal-back : (ts us : List Test) → T (proper ts) → refusal (ts ++ us) ≡ 0 → refusal us ≡ 0
-refusal-back ts us t h = sym (refusal-append ts us t (refusal-front ts us t h)) ∙ h
-
--- a test that does not turn down does not apply
-pub passed : (b : Bool) (n : ℕ) → n ≢ 0 → refusal (b ⇒ n ∷ []) ≡ 0 → b ≡ false
-passed true n h e = absurd (h e)
-passed false n h e = refl
+-- tests that turn nothing down do not apply, one and all
+pub passes : (ts : List Test) → T (proper ts) → refusal ts ≡ 0 → Pass ts
+passes [] t e = tt
+passes ((true ⇒ zero) ∷ ts) t e = absurd t
+passes ((true ⇒ suc n) ∷ ts) t e = absurd (omega arith)
+passes ((false ⇒ zero) ∷ ts) t e = absurd t
+passes ((false ⇒ suc n) ∷ ts) t e = (refl, passes ts t e)
 
 -- the tests before pass, and one more decides
 pub then-applies : (ts : List Test) (r n : ℕ) (b : Bool) → T (proper ts) → r ≡ refusal ts → r ≡ 0 → true ≡ b → n ≡ refusal (ts ++ b ⇒ n ∷ [])
@@ -136,21 +135,32 @@ free p e = go (factorFree (degreeOf p) p) refl
     go true q = q
     go false q = absurd (false≢true (sym e ∙ ap not q))
 
-pub accepted-range : (p : ℕ) → refusal (polynomialTests p) ≡ 0 → (polynomialFloor ≤ p) × (p < polynomialCeiling)
-accepted-range p e = range p (passed (outOfRange p) 1 (λ z. omega arith) (refusal-front (outOfRange p ⇒ 1 ∷ []) (hasFactor p ⇒ 2 ∷ []) tt e))
-
-pub accepted : (p : ℕ) → refusal (polynomialTests p) ≡ 0 → Accepted p
-accepted p e =
-    let r = accepted-range p e in
-    let f = free p (passed (hasFactor p) 2 (λ z. omega arith) (refusal-back (outOfRange p ⇒ 1 ∷ []) (hasFactor p ⇒ 2 ∷ []) tt e)) in
+-- what passes both tests is accepted
+passed : (p : ℕ) → outOfRange p ≡ false → hasFactor p ≡ false → Accepted p
+passed p e f =
+    let r = range p e in
     let two = two-le p (r .0) in
     record {
       largest = degree-small p (r .0) (r .1);
       ready = record {
         modulus = modulus-of p (r .0) (r .1);
-        field = record { irr = test-irreducible (degreeOf p) p (degree-of p (r .0)) f; pos = omega arith };
+        field = record { irr = test-irreducible (degreeOf p) p (degree-of p (r .0)) (free p f); pos = omega arith };
       };
     }
+
+pub accepted-range : (p : ℕ) → refusal (polynomialTests p) ≡ 0 → (polynomialFloor ≤ p) × (p < polynomialCeiling)
+accepted-range p e =
+    let t = passes (polynomialTests p) tt e in
+    let first = t .0 in
+    let second = t .1 .0 in
+    range p (search needs)
+
+pub accepted : (p : ℕ) → refusal (polynomialTests p) ≡ 0 → Accepted p
+accepted p e =
+    let t = passes (polynomialTests p) tt e in
+    let first = t .0 in
+    let second = t .1 .0 in
+    passed p (search needs) (search needs)
 
 -- ---- elements
 
@@ -166,15 +176,15 @@ small p a e = go (decLe (2 ^ degreeOf p) a)
     go (no h) = omega arith
 
 pub element-passed : (p a : ℕ) → refusal (elementTests p a) ≡ 0 → Accepted p × (a < 2 ^ degreeOf p)
-element-passed p a e = (
-  accepted p (refusal-front (polynomialTests p) (tooLarge p a ⇒ 4 ∷ []) tt e),
-  small p a (passed (tooLarge p a) 4 (λ z. omega arith) (refusal-back (polynomialTests p) (tooLarge p a ⇒ 4 ∷ []) tt e)),
-)
+element-passed p a e =
+    let t = passes (elementTests p a) tt e in
+    let first = t .0 in
+    let second = t .1 .0 in
+    (passed p (search needs) (search needs), small p a (t .1 .1 .0))
 
 pub elements-passed : (p a b : ℕ) → refusal (elementsTests p a b) ≡ 0 → Accepted p × (a < 2 ^ degreeOf p) × (b < 2 ^ degreeOf p)
 elements-passed p a b e =
-    let r = element-passed p a (refusal-front (elementTests p a) (tooLarge p b ⇒ 4 ∷ []) tt e) in (
-      r .0,
-      r .1,
-      small p b (passed (tooLarge p b) 4 (λ z. omega arith) (refusal-back (elementTests p a) (tooLarge p b ⇒ 4 ∷ []) tt e)),
-    )
+    let t = passes (elementsTests p a b) tt e in
+    let first = t .0 in
+    let second = t .1 .0 in
+    (passed p (search needs) (search needs), small p a (t .1 .1 .0), small p b (t .1 .1 .1 .0))

@@ -9,8 +9,7 @@ use Rattle.binary.specs.Xor.{_⊕_, Degree}
 use Rattle.binary.specs.Times.{times}
 use Rattle.binary.specs.Product.{product}
 use Rattle.binary.specs.Factor.{degreeOf}
-use Rattle.binary.proofs.Inverse.{no-factor}
-use Rattle.binary.proofs.Factor.{divides-times}
+use Rattle.binary.proofs.Inverse.{no-divisor}
 use Rattle.galois.specs.Field.{Field, FieldLaws}
 use Rattle.galois.specs.Power.{power}
 use Rattle.galois.specs.Trace.{trace}
@@ -35,8 +34,8 @@ module _ (p : ℕ) (A : Accepted p) where
   is-field = field-laws (degreeOf p) p F
 
   -- no polynomial of degree 1 to m - 1 divides p
-  pub no-divisor : (i d q : ℕ) → Degree i d → 1 ≤ i → i < degreeOf p → times q d ≢ p
-  no-divisor i d q h l k e = no-factor (degreeOf p) p (F .irr) i d h l k (divides-times i d p h .1 (q, e))
+  pub no-proper-factor : (i d q : ℕ) → Degree i d → 1 ≤ i → i < degreeOf p → times q d ≢ p
+  no-proper-factor = no-divisor (degreeOf p) p (F .irr)
 
   -- the quotient is right, an element, and the only one
   pub quotient-right : (a b : ℕ) → a < 2 ^ degreeOf p → b ≢ 0 → b < 2 ^ degreeOf p → product p (quotientOf (degreeOf p) p a b) b ≡ a

@@ -74,10 +74,6 @@ module _ (m p : ℕ) (F : Field m p) where
   build-multiplicity r (a ∷ rs) hr h =
       multiplicity-withRoot m p F a r (build p rs) (h .0) hr (build-coeffs rs) (build-nonzero rs) ∙ ap (λ (n : ℕ). same a r + n) (build-multiplicity r rs hr (h .1))
 
-  -- so two lists with one product have each number equally often
-  pub build-count : (r : ℕ) (rs bs : List ℕ) → r < 2 ^ m → Coeffs m rs → Coeffs m bs → build p rs ≡ build p bs → count r rs ≡ count r bs
-  build-count r rs bs hr ha hb e = sym (build-multiplicity r rs hr ha) ∙ ap (multiplicity p r) e ∙ build-multiplicity r bs hr hb
-
   -- the multiplicity is the k with f = (x + r)^k·q and q(r) not 0
   pub multiplicity-often : (r k : ℕ) (q : List ℕ) → value p q r ≢ 0 → multiplicity p r (withRootOften p r k q) ≡ k
   unfolding withRootOften

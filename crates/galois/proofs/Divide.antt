@@ -116,10 +116,6 @@ module _ (m p : ℕ) (F : Field m p) where
   unfolding withoutRoot value
   divided r c f = shifted-sums r (c ⊕ product p r (value p f r)) f ∙ ap (λ (v : ℕ). v ∷ f) (simp ac)
 
-  -- and the remainder b is the only one, as is q (quot-unique)
-  pub remainder-unique : (r b : ℕ) (q : List ℕ) → value p (shifted p r b q) r ≡ b
-  remainder-unique r b q = shifted-root r b q
-
   -- at a root the quotient and x + r give the list back
   pub withRoot-back : (r c : ℕ) (f : List ℕ) → value p (c ∷ f) r ≡ 0 → withRoot p r (withoutRoot p r (c ∷ f)) ≡ c ∷ f
   unfolding withRoot

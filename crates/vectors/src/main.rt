@@ -1,6 +1,6 @@
-// Runs the public calls of `field` on the rows of standard input, a call a line: its name and its numbers, as `power 19 2 -1`. Each line
-// is written back with what the call answered. The gate compares that with the stored output, which an independent model made: it finds
-// quotients, inverses and square roots by trying every element and computes the rest directly; the house rows are document 01's list.
+// Runs the public calls of `field` on the rows of standard input, a call a line: its name and its numbers, as `power 19 2 -1`. Each row
+// is written back with what the call answered; a name that is no call's is turned down by 8, the number of a malformed line. A last row
+// without a line end counts. At most 65,536 bytes are read. The gate compares the output with the stored one, which tests/vectors.py made.
 use field::DegreeAnswer;
 use field::Element;
 use field::ElementAnswer;
@@ -86,7 +86,7 @@ fn exponent(negative: bool, size: u32) -> i32 {
     e
 }
 
-// Two letters as one number.
+// The first two letters of each call's name as one number.
 const AC: u32 = 24931;
 
 const SU: u32 = 29557;
@@ -107,6 +107,8 @@ const EL: u32 = 25964;
 
 const XP: u32 = 30832;
 
+const HO: u32 = 26735;
+
 fn answered(row: Row) -> Said {
     let call = row.call;
     let p = row.first;
@@ -125,7 +127,8 @@ fn answered(row: Row) -> Said {
         NU => number_said(field::number_of_element(p, Element(a))),
         EL => element_said(field::element_of_number(p, LogNumber(a))),
         XP => element_said(field::power_of_x(p, Exponent(only))),
-        _ => polynomial_said(field::house_polynomial(p)),
+        HO => polynomial_said(field::house_polynomial(p)),
+        _ => turned_down(8),
     }
 }
 
@@ -194,12 +197,17 @@ fn next(row: Row, b: u8) -> Row {
     letter(row, b)
 }
 
+// The answer after the row, and the line end.
+fn finish(row: Row) {
+    io::write_all(STDOUT_FILENO, b": ");
+    print(answered(row));
+    io::write_all(STDOUT_FILENO, b"\n");
+}
+
 // One byte of a row: it is written back, and at the row's end the answer after it.
 fn step(row: Row, b: u8) -> Row {
     if b == b'\n' {
-        io::write_all(STDOUT_FILENO, b": ");
-        print(answered(row));
-        io::write_all(STDOUT_FILENO, b"\n");
+        finish(row);
         return empty();
     }
     let byte = [b; 1];
@@ -207,15 +215,19 @@ fn step(row: Row, b: u8) -> Row {
     next(row, b)
 }
 
-fn walk(text: &[u8]) {
+fn walk(text: &[u8]) -> Row {
     let mut row = empty();
     for i in 0..text.len() {
         row = step(row, text[i]);
     }
+    row
 }
 
 fn main() {
     let mut text = io::large_buffer();
     let n = io::read_full(STDIN_FILENO, &mut text);
-    walk(&text[..n]);
+    let last = walk(&text[..n]);
+    if last.call != 0 {
+        finish(last);
+    }
 }

@@ -1,7 +1,7 @@
 -- `number` meets its contract. Assumes nothing.
 use Prim.Native.Nat.{_-_}
 use native.Mathlib.Omega.{arith}
-use lib.Pow.{pow-pos}
+use lib.Pow.{pow-mono}
 use Rattle.arithmetic.proofs.Number.{Tried, tried-start, tried-turn, tried-found, tried-all}
 use Rattle.arithmetic.proofs.inner.logarithm.number.Statement.{statement}
 use Rattle.arithmetic.proofs.inner.logarithm.number.Tie as tie
@@ -16,7 +16,7 @@ power-of-two-requires : tie.Need-power-of-two-requires Inv-loop μ-loop
 power-of-two-requires c κs = omega (arith, c .pre .0 .fits)
 
 sub-order : tie.Need-sub-order Inv-loop μ-loop
-sub-order c = let w = pow-pos (c .before .args .m) in omega arith
+sub-order c = let w = pow-mono (c .before .pre .0 .two) in omega arith
 
 loop-holds : tie.Need-loop-holds Inv-loop μ-loop
 loop-holds c = let a = c .before .args in tried-start (a .m) (a .p) (a .a) (c .before .pre .0)

@@ -18,7 +18,7 @@ zeros-deg x h l =
     rw q (w .2, w .3)
 
 sub-result : tie.Need-sub-result
-sub-result c = zeros-le (c .args .x) (c .pre) (omega arith)
+sub-result c = let w = zeros-le (c .args .x) (c .pre) (omega arith) in omega arith
 
 returns : tie.Need-returns
 returns c = zeros-deg (c .args .x) (c .pre) (omega arith)
