@@ -7,4 +7,8 @@ pub mod Onto
 pub mod Ascending
 pub mod Counting
 pub mod Search
+pub mod Seeking
 pub mod Table
+pub mod Loop
+pub mod CountUp
+pub mod Filled

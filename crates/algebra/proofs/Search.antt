@@ -1,12 +1,15 @@
--- What a search finds (`first-is`, `first-none`, `found`), and what a test of all numbers below n shows (`everyBelow`). Assumes nothing.
-use mathlib.Core.Path.{_≡_, refl, ap, _∙_}
-use mathlib.Core.Bool.{Bool, true, false, _&&_, and-false}
+-- What a search finds (`first-from`, `first-is`, `first-none`, `found`), and what a test of some or of all numbers below n shows
+-- (`some-yes`, `some-not`, `some-one`, `some-none`, `every-below`, `not-every-below`, `every-at`). Assumes nothing.
+use mathlib.Core.Path.{_≡_, refl, sym, ap, _∙_, subst}
+use mathlib.Core.Bool.{Bool, true, false, not, _&&_, and-false, false≢true}
 use mathlib.Core.Logic.{_⊎_, inl, inr}
 use Prim.Native.Nat.{ℕ, zero, suc, _+_, _≤_, _<_}
 use native.Mathlib.Nat.{eq-or-lt-of-le}
+use native.Mathlib.Decide.{ℕ-discrete}
 use native.Mathlib.Omega.{arith}
+use lib.Dec.{T, ltb→lt, nltb→le}
 use borrow.Author.Count.{below-more}
-use Rattle.algebra.specs.Search.{firstFrom, first, everyBelow}
+use Rattle.algebra.specs.Search.{firstFrom, first, someBelow, everyBelow}
 
 module _ (f : ℕ → Bool) where
   from-is : (n i k : ℕ) → i ≤ k → k < i + n → f k ≡ true → ((j : ℕ) → j < k → f j ≡ false) → firstFrom f n i ≡ k
@@ -32,6 +35,64 @@ module _ (f : ℕ → Bool) where
   pub first-none : (n : ℕ) → ((j : ℕ) → j < n → f j ≡ false) → first f n ≡ n
   unfolding first
   first-none n b = from-none n 0 (λ j l. b j (omega arith)) ∙ omega arith
+
+  -- p is the first of the n numbers from i on that passes, or i + n
+  pub record First (i n p : ℕ) : Type 0 where
+    pub from : i ≤ p
+    pub within : p ≤ i + n
+    pub holds : p < i + n → f p ≡ true
+    pub before : (j : ℕ) → i ≤ j → j < p → f j ≡ false
+
+  pub first-from : (n i : ℕ) → First i n (firstFrom f n i)
+  unfolding firstFrom
+  first-from zero i =
+      record { from = omega arith; within = omega arith; holds = λ h. absurd (omega arith); before = λ j h l. absurd (omega arith) }
+  first-from (suc n) i = go (f i) refl (first-from n (suc i))
+    where
+      go : (b : Bool) → f i ≡ b → First (suc i) n (firstFrom f n (suc i)) → First i (suc n) (elim b [ true ↦ i | false ↦ firstFrom f n (suc i) ])
+      go true e r =
+          record { from = omega arith; within = omega arith; holds = λ h. e; before = λ j h l. absurd (omega arith) }
+      go false e r =
+          record {
+            from = omega (arith, r .from);
+            within = omega (arith, r .within);
+            holds = λ h. r .holds (omega arith);
+            before = λ j h l. here j h l (ℕ-discrete j i);
+          }
+        where
+          here : (j : ℕ) → i ≤ j → j < firstFrom f n (suc i) → Dec (j ≡ i) → f j ≡ false
+          here j h l (yes q) = ap f q ∙ e
+          here j h l (no q) = r .before j (omega arith) l
+
+  pub first-below : (n : ℕ) → First 0 n (first f n)
+  unfolding first
+  first-below n = first-from n 0
+
+  pub some-yes : (n : ℕ) → someBelow f n ≡ true → (i : ℕ) × (i < n) × (f i ≡ true)
+  unfolding someBelow
+  some-yes n e =
+      let l : first f n < n = ltb→lt (first f n) n (subst T (sym e) tt) in
+      (first f n, l, first-below n .holds (omega arith))
+
+  pub some-not : (n : ℕ) → someBelow f n ≡ false → (i : ℕ) → i < n → f i ≡ false
+  unfolding someBelow
+  some-not n e i l =
+      let h : n ≤ first f n = nltb→le (first f n) n (subst (λ (b : Bool). T (not b)) (sym e) tt) in
+      first-below n .before i (omega arith) (omega arith)
+
+  pub some-one : (n i : ℕ) → i < n → f i ≡ true → someBelow f n ≡ true
+  some-one n i l e = go (someBelow f n) refl
+    where
+      go : (b : Bool) → someBelow f n ≡ b → someBelow f n ≡ true
+      go true q = q
+      go false q = absurd (false≢true (sym (some-not n q i l) ∙ e))
+
+  pub some-none : (n : ℕ) → ((j : ℕ) → j < n → f j ≡ false) → someBelow f n ≡ false
+  some-none n h = go (someBelow f n) refl
+    where
+      go : (b : Bool) → someBelow f n ≡ b → someBelow f n ≡ false
+      go false q = q
+      go true q = let r = some-yes n q in absurd (false≢true (sym (h (r .0) (r .1)) ∙ r .2))
 
   -- what there is to find: the first that passes, or that none does
   pub found : (n : ℕ) → ((k : ℕ) × (k < n) × (f k ≡ true) × ((j : ℕ) → j < k → f j ≡ false)) ⊎ ((j : ℕ) → j < n → f j ≡ false)
@@ -60,3 +121,10 @@ module _ (f : ℕ → Bool) where
       go : (suc k ≡ suc n) ⊎ (suc k < suc n) → (k < n → everyBelow f n ≡ false) → (f n && everyBelow f n) ≡ false
       go (inl q) rest = let w : n ≡ k = omega arith in rw (ap f w ∙ e)
       go (inr w) rest = rw (rest (omega arith)) (and-false (f n))
+
+  pub every-at : (n : ℕ) → everyBelow f n ≡ true → (j : ℕ) → j < n → f j ≡ true
+  every-at n e j l = go (f j) refl
+    where
+      go : (b : Bool) → f j ≡ b → f j ≡ true
+      go true q = q
+      go false q = absurd (false≢true (sym (not-every-below n j l q) ∙ e))

@@ -3,3 +3,4 @@ pub mod Ring
 pub mod Lists
 pub mod Counts
 pub mod Search
+pub mod Loop

@@ -34,6 +34,11 @@ abbrev pub below : ℕ → List ℕ
 below zero = []
 below (suc n) = n ∷ below n
 
+-- the n numbers from k on, ascending
+abbrev pub countUp : ℕ → ℕ → List ℕ
+countUp k zero = []
+countUp k (suc n) = k ∷ countUp (suc k) n
+
 -- the entries that pass a test
 abbrev pub keep : (ℕ → Bool) → List ℕ → List ℕ
 keep t [] = []

@@ -1,4 +1,6 @@
 pub mod Xor
+pub mod Bit
+pub mod Additive
 pub mod Fold
 pub mod Times
 pub mod Remainder

@@ -1,4 +1,5 @@
 pub mod Xor
+pub mod Bit
 pub mod Fold
 pub mod Times
 pub mod Remainder

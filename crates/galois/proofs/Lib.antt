@@ -5,8 +5,12 @@ pub mod Trace
 pub mod Polynomial
 pub mod Divide
 pub mod Roots
+pub mod Affine
+pub mod AffineList
 pub mod TraceOne
 pub mod Quadratic
+pub mod HalfTrace
+pub mod QuadraticRoots
 pub mod Multiplicity
 pub mod Build
 pub mod Cyclic

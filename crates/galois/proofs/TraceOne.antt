@@ -1,16 +1,18 @@
--- C5, `trace-one`: some element has trace 1. The trace is a list of 2 ^ m coefficients, the second of which is 1. Assumes nothing.
+-- C5, `trace-one`: some element has trace 1. The trace is the linear part with m coefficients 1 (`partTrace-linear`), so that it has at
+-- most 2 ^ (m - 1) roots. Assumes nothing.
 use mathlib.Core.Path.{_≡_, refl, sym, ap, ap₂, _∙_, subst}
 use mathlib.Core.Logic.{_⊎_, inl, inr}
-use mathlib.Core.List.{List, [], _∷_}
-use Prim.Native.Nat.{ℕ, zero, suc, _*_, _^_, _≤_, _<_}
+use mathlib.Core.List.{List, [], _∷_, _++_}
+use Prim.Native.Nat.{ℕ, zero, suc, _^_, _≤_, _<_}
 use native.Mathlib.Decide.{ℕ-discrete}
+use native.Mathlib.Numerals.{add-one}
 use native.Mathlib.Omega.{arith}
-use lib.ListN.{length}
+use lib.ListN.{replicate, length-replicate, replicate-append-replicate}
 use lib.Pow.{pow-pos}
 use Rattle.binary.specs.Xor.{_⊕_}
 use Rattle.binary.proofs.Xor.{zero-xor}
 use Rattle.binary.specs.Product.{product}
-use Rattle.binary.proofs.Product.{product-zero, product-one, product-xor, product-assoc}
+use Rattle.binary.proofs.Product.{one-product}
 use Rattle.algebra.specs.Lists.{below}
 use Rattle.algebra.proofs.Onto.{below-length, below-nodup, of-below}
 use Rattle.galois.specs.Field.{Field}
@@ -18,28 +20,9 @@ use Rattle.galois.proofs.Field.{one-lt}
 use Rattle.galois.proofs.Power.{mul-lt}
 use Rattle.galois.specs.Trace.{partTrace, trace}
 use Rattle.galois.proofs.Trace.{partTrace-front, trace-bit}
-use Rattle.galois.specs.Polynomial.{value, Coeffs, AllZero}
-use Rattle.galois.proofs.Roots.{all-zero}
-
--- f(x²) for f(x)
-unfoldable pub spread : List ℕ → List ℕ
-spread [] = []
-spread (c ∷ f) = c ∷ 0 ∷ spread f
-
--- x + x² + x⁴ + .., k terms, divided by x
-unfoldable pub traceTail : ℕ → List ℕ
-traceTail zero = []
-traceTail (suc k) = 1 ∷ spread (traceTail k)
-
-spread-length : (f : List ℕ) → length (spread f) ≡ 2 * length f
-unfolding spread
-spread-length [] = refl
-spread-length (c ∷ f) = let e = spread-length f in omega arith
-
-traceTail-length : (k : ℕ) → suc (length (traceTail k)) ≡ 2 ^ k
-unfolding traceTail
-traceTail-length zero = refl
-traceTail-length (suc k) = let e = traceTail-length k in let s = spread-length (traceTail k) in omega arith
+use Rattle.galois.specs.Polynomial.{Coeffs}
+use Rattle.galois.specs.Affine.{linearAt, affineAt}
+use Rattle.galois.proofs.AffineList.{affine-few}
 
 -- the first number below n that passes, or none does
 pub look : (P : ℕ → Type 0) → ((x : ℕ) → Dec (P x)) → (n : ℕ) → ((x : ℕ) × (x < n) × P x) ⊎ ((x : ℕ) → x < n → P x → ⊥)
@@ -58,47 +41,35 @@ look P d (suc n) = go (look P d n) (d n)
     go (inr f) (yes q) = inl (n, omega arith, q)
     go (inr f) (no g) = inr (last f g)
 
+ones-end : (k : ℕ) → replicate {A = ℕ} k 1 ++ 1 ∷ [] ≡ replicate (suc k) 1
+ones-end k = replicate-append-replicate k 1 1 ∙ ap (λ (j : ℕ). replicate j 1) (add-one k)
+
 module _ (m p : ℕ) (F : Field m p) where
-  spread-value : (f : List ℕ) (x : ℕ) → value p (spread f) x ≡ value p f (product p x x)
-  unfolding spread value
-  spread-value [] x = refl
-  spread-value (c ∷ f) x =
-      ap (λ (v : ℕ). c ⊕ v)
-      (ap (product p x) (zero-xor (product p x (value p (spread f) x)) ∙ ap (product p x) (spread-value f x))
-      ∙ sym (product-assoc m p (F .irr .degree) x x (value p f (product p x x))))
+  ones-coeffs : (k : ℕ) → Coeffs m (replicate k 1)
+  ones-coeffs zero = tt
+  ones-coeffs (suc k) = (one-lt m p F, ones-coeffs k)
 
-  spread-coeffs : (f : List ℕ) → Coeffs m f → Coeffs m (spread f)
-  unfolding spread
-  spread-coeffs [] h = tt
-  spread-coeffs (c ∷ f) h = (h .0, (pow-pos m, spread-coeffs f (h .1)))
-
-  traceTail-coeffs : (k : ℕ) → Coeffs m (traceTail k)
-  unfolding traceTail
-  traceTail-coeffs zero = tt
-  traceTail-coeffs (suc k) = (one-lt m p F, spread-coeffs (traceTail k) (traceTail-coeffs k))
-
-  trace-value : (k x : ℕ) → x < 2 ^ m → value p (0 ∷ traceTail k) x ≡ partTrace p k x
-  unfolding traceTail value partTrace
-  trace-value zero x h = zero-xor (product p x 0) ∙ product-zero p x
-  trace-value (suc k) x h =
-      zero-xor (product p x (1 ⊕ product p x (value p (spread (traceTail k)) x)))
-      ∙ product-xor m p (F .irr .degree) x 1 (product p x (value p (spread (traceTail k)) x))
-      ∙ ap₂ _⊕_ (product-one m p (F .irr .degree) x h)
-      (ap (λ (v : ℕ). product p x (product p x v)) (spread-value (traceTail k) x)
-      ∙ sym (product-assoc m p (F .irr .degree) x x (value p (traceTail k) (product p x x)))
-      ∙ sym (zero-xor (product p (product p x x) (value p (traceTail k) (product p x x))))
-      ∙ trace-value k (product p x x) (mul-lt m p F x x))
-      ∙ sym (partTrace-front p k x)
+  -- the trace is the linear part with every coefficient 1
+  pub partTrace-linear : (k x : ℕ) → x < 2 ^ m → partTrace p k x ≡ linearAt p (replicate k 1) x
+  unfolding partTrace linearAt
+  partTrace-linear zero x h = refl
+  partTrace-linear (suc k) x h =
+      partTrace-front p k x
+      ∙ ap₂ _⊕_ (sym (one-product m p (F .irr .degree) x h)) (partTrace-linear k (product p x x) (mul-lt m p F x x))
 
   -- not every element has trace 0
   not-all : ((x : ℕ) → x < 2 ^ m → trace m p x ≡ 0) → (k : ℕ) → suc k ≡ m → ⊥
-  unfolding traceTail
+  unfolding affineAt
   not-all z k e =
-      let a = all-zero m p F (below (2 ^ m)) (0 ∷ traceTail m) (pow-pos m, traceTail-coeffs m) (below-nodup (2 ^ m))
-      (λ r h. let l = of-below (2 ^ m) r h in (l, trace-value m r l ∙ z r l))
-      (let c = below-length (2 ^ m) in let d = traceTail-length m in omega arith) in
-      let b = subst (λ (j : ℕ). AllZero (traceTail j)) (sym e) (a .1) in
-      let w = b .0 in
+      let s = ones-end k ∙ ap (λ (j : ℕ). replicate j 1) e in
+      let a = affine-few m p F 0 (replicate k 1) 1 (pow-pos m, subst (Coeffs m) (sym s) (ones-coeffs m)) (λ w. omega arith)
+      (below (2 ^ m)) (below-nodup (2 ^ m))
+      (λ r h. let l = of-below (2 ^ m) r h in
+      (l, ap (λ (ls : List ℕ). 0 ⊕ linearAt p ls r) s ∙ zero-xor (linearAt p (replicate m 1) r) ∙ sym (partTrace-linear m r l) ∙ z r l)) in
+      let b = below-length (2 ^ m) in
+      let c = ap (λ (j : ℕ). 2 ^ j) (length-replicate {A = ℕ} k 1) in
+      let d = ap (λ (j : ℕ). 2 ^ j) e in
+      let f = pow-pos k in
       omega arith
 
   pub trace-one : (θ : ℕ) × (θ < 2 ^ m) × (trace m p θ ≡ 1)

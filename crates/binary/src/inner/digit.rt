@@ -1,6 +1,7 @@
 // Single binary digits of a number.
 ghost use mathlib.Core.Path.{_≡_};
 ghost use Prim.Native.Nat.{_*_, _^_, _<_};
+ghost use Rattle.binary.specs.Bit.{bit};
 ghost use Rattle.binary.specs.Xor.{Degree};
 
 // The highest bit.
@@ -16,6 +17,14 @@ pub fn power_of_two(k: u32) -> u32
     ensures { λ r. ⌜ r ≡ 2 ^ k ⌝ }
 {
     1 << k
+}
+
+// The digit of x at the power 2^k.
+pub fn bit(x: u32, k: u32) -> u32
+    requires { ⌜ k < 32 ⌝ }
+    ensures { λ r. ⌜ r ≡ bit k x ⌝ }
+{
+    (x >> k) % 2
 }
 
 // x where the digit is 1, else 0: a mask and no branch, for the loops that take most of the time.

@@ -1,0 +1,56 @@
+-- The numbers from k on, ascending: their entries, their order; what a test keeps of an ascending list and what an increasing function
+-- makes of one. Assumes nothing.
+use mathlib.Core.Path.{_≡_, refl, ap, _∙_}
+use mathlib.Core.Logic.{_⊎_, inl, inr}
+use mathlib.Core.Bool.{Bool, true, false}
+use mathlib.Core.List.{List, [], _∷_, map}
+use Prim.Native.Nat.{ℕ, zero, suc, _+_, _≤_, _<_}
+use native.Mathlib.Decide.{ℕ-discrete}
+use native.Mathlib.Omega.{arith}
+use lib.ListN.{length, getD}
+use Rattle.algebra.specs.Lists.{Member, Ascending, countUp, keep}
+use Rattle.algebra.proofs.Onto.{of-map, of-keep}
+
+pub of-countUp : (k n x : ℕ) → Member x (countUp k n) → (k ≤ x) × (x < k + n)
+of-countUp k zero x h = absurd h
+of-countUp k (suc n) x (inl e) = (omega arith, omega arith)
+of-countUp k (suc n) x (inr h) = let r = of-countUp (suc k) n x h in (omega arith, omega arith)
+
+pub to-countUp : (k n x : ℕ) → k ≤ x → x < k + n → Member x (countUp k n)
+to-countUp k zero x h l = absurd (omega arith)
+to-countUp k (suc n) x h l = go (ℕ-discrete x k) (λ g. to-countUp (suc k) n x g (omega arith))
+  where
+    go : Dec (x ≡ k) → (suc k ≤ x → Member x (countUp (suc k) n)) → (x ≡ k) ⊎ Member x (countUp (suc k) n)
+    go (yes e) rest = inl e
+    go (no f) rest = inr (rest (omega arith))
+
+pub countUp-ascending : (k n : ℕ) → Ascending (countUp k n)
+countUp-ascending k zero = tt
+countUp-ascending k (suc n) = (λ y h. of-countUp (suc k) n y h .0, countUp-ascending (suc k) n)
+
+pub countUp-length : (k n : ℕ) → length (countUp k n) ≡ n
+countUp-length k zero = refl
+countUp-length k (suc n) = ap suc (countUp-length (suc k) n)
+
+-- the entry at place i of a list made from them
+pub map-countUp : (f : ℕ → ℕ) (k n i d : ℕ) → i < n → getD (map f (countUp k n)) i d ≡ f (k + i)
+map-countUp f k zero i d h = absurd (omega arith)
+map-countUp f k (suc n) zero d h = ap f (omega arith)
+map-countUp f k (suc n) (suc i) d h = map-countUp f (suc k) n i d (omega arith) ∙ ap f (omega arith)
+
+pub keep-ascending : (t : ℕ → Bool) (xs : List ℕ) → Ascending xs → Ascending (keep t xs)
+keep-ascending t [] a = tt
+keep-ascending t (x ∷ xs) a = go (t x) (keep-ascending t xs (a .1))
+  where
+    go : (b : Bool) → Ascending (keep t xs) → Ascending (elim b as (λ (_ : Bool). List ℕ) [ true ↦ x ∷ keep t xs | false ↦ keep t xs ])
+    go true r = (λ y h. a .0 y (of-keep t xs y h .0), r)
+    go false r = r
+
+-- a function that keeps the order keeps a list ascending
+pub map-ascending : (f : ℕ → ℕ) (n : ℕ) → ((k j : ℕ) → k < j → j < n → f k < f j) → (xs : List ℕ) → Ascending xs
+    → ((x : ℕ) → Member x xs → x < n) → Ascending (map f xs)
+map-ascending f n h [] a b = tt
+map-ascending f n h (x ∷ xs) a b = (
+  λ y k. let r = of-map f xs y k in let l = h x (r .0) (a .0 (r .0) (r .1)) (b (r .0) (inr (r .1))) in let e = r .2 in omega arith,
+  map-ascending f n h xs (a .1) (λ z k. b z (inr k)),
+)

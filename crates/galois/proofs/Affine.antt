@@ -1,0 +1,36 @@
+-- D5: an affine polynomial stays in the field, its linear part takes sums to sums (`linearAt-xor`), and it is additive up to its constant
+-- (`affineAt-xor`). Assumes nothing.
+use mathlib.Core.Path.{_≡_, sym, ap, ap₂, _∙_}
+use mathlib.Core.List.{List, [], _∷_}
+use Prim.Native.Nat.{ℕ, _^_, _<_}
+use lib.Pow.{pow-pos}
+use Rattle.binary.specs.Xor.{_⊕_}
+use Rattle.binary.proofs.Xor.{zero-xor, xor-lt, ac}
+use Rattle.binary.proofs.Additive.{Additive}
+use Rattle.binary.specs.Product.{product}
+use Rattle.binary.proofs.Product.{product-xor}
+use Rattle.galois.specs.Field.{Field}
+use Rattle.galois.proofs.Power.{mul-lt, square-xor}
+use Rattle.galois.specs.Affine.{linearAt, affineAt}
+
+module _ (m p : ℕ) (F : Field m p) where
+  pub linearAt-lt : (ls : List ℕ) (x : ℕ) → linearAt p ls x < 2 ^ m
+  unfolding linearAt
+  linearAt-lt [] x = pow-pos m
+  linearAt-lt (l ∷ ls) x = xor-lt m (mul-lt m p F l x) (linearAt-lt ls (product p x x))
+
+  pub affineAt-lt : (c : ℕ) (ls : List ℕ) (x : ℕ) → c < 2 ^ m → affineAt p c ls x < 2 ^ m
+  unfolding affineAt
+  affineAt-lt c ls x h = xor-lt m h (linearAt-lt ls x)
+
+  pub linearAt-xor : (ls : List ℕ) → Additive (linearAt p ls)
+  unfolding linearAt
+  linearAt-xor [] x y = sym (zero-xor 0)
+  linearAt-xor (l ∷ ls) x y =
+      ap₂ _⊕_ (product-xor m p (F .irr .degree) l x y)
+      (ap (linearAt p ls) (square-xor m p F x y) ∙ linearAt-xor ls (product p x x) (product p y y))
+      ∙ (simp ac)
+
+  pub affineAt-xor : (c : ℕ) (ls : List ℕ) (x y : ℕ) → affineAt p c ls (x ⊕ y) ≡ affineAt p c ls x ⊕ linearAt p ls y
+  unfolding affineAt
+  affineAt-xor c ls x y = ap (λ (v : ℕ). c ⊕ v) (linearAt-xor ls x y) ∙ (simp ac)

@@ -1,0 +1,3 @@
+// Code that asks something of its caller (each `requires` says what).
+pub mod elimination;
+pub mod solution;
