@@ -1,6 +1,6 @@
 -- The numbers from k on, ascending: their entries, their order; what a test keeps of an ascending list and what an increasing function
 -- makes of one. Assumes nothing.
-use mathlib.Core.Path.{_≡_, refl, ap, _∙_}
+use mathlib.Core.Path.{_≡_, refl, ap, ap₂, _∙_}
 use mathlib.Core.Logic.{_⊎_, inl, inr}
 use mathlib.Core.Bool.{Bool, true, false}
 use mathlib.Core.List.{List, [], _∷_, map}
@@ -37,6 +37,11 @@ pub map-countUp : (f : ℕ → ℕ) (k n i d : ℕ) → i < n → getD (map f (c
 map-countUp f k zero i d h = absurd (omega arith)
 map-countUp f k (suc n) zero d h = ap f (omega arith)
 map-countUp f k (suc n) (suc i) d h = map-countUp f (suc k) n i d (omega arith) ∙ ap f (omega arith)
+
+-- two functions that agree on them make the same list
+pub map-same : (f g : ℕ → ℕ) (k n : ℕ) → ((i : ℕ) → i < k + n → f i ≡ g i) → map f (countUp k n) ≡ map g (countUp k n)
+map-same f g k zero h = refl
+map-same f g k (suc n) h = ap₂ _∷_ (h k (omega arith)) (map-same f g (suc k) n (λ i l. h i (omega arith)))
 
 pub keep-ascending : (t : ℕ → Bool) (xs : List ℕ) → Ascending xs → Ascending (keep t xs)
 keep-ascending t [] a = tt

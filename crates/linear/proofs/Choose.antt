@@ -1,16 +1,18 @@
 -- Sums of chosen entries (`choose`): additive in the number that chooses (`choose-xor`); a power of two chooses one entry (`choose-pow`);
 -- the bits past the last entry do not count (`choose-low`); what holds of every entry and of sums holds of every choice (`choose-all`).
--- Assumes nothing.
+-- A loop over the entries: `choose-next`, `choose-done`; zeros after them: `choose-zeros`. Assumes nothing.
 use mathlib.Core.Path.{_≡_, refl, sym, ap, ap₂, _∙_}
-use mathlib.Core.List.{List, [], _∷_}
-use Prim.Native.Nat.{ℕ, zero, suc, _+_, _*_, _/_, _%_, _^_, _<_}
-use native.Mathlib.Nat.{mod-lt, zero-mul, one-mul}
+use mathlib.Core.List.{List, [], _∷_, _++_}
+use Prim.Native.Nat.{ℕ, zero, suc, _+_, _*_, _/_, _%_, _^_, _≤_, _<_}
+use native.Mathlib.Nat.{mod-lt, zero-mul, one-mul, mul-zero}
 use native.Mathlib.Omega.{arith}
-use lib.ListN.{length, getD}
+use lib.Bits.{bitXor}
+use lib.ListN.{length, getD, drop, replicate, drop-of-length-le}
 use lib.Pow.{mod-mod-pow, field}
+use lib.Seq.{drop-cons}
 use Rattle.binary.specs.Xor.{_⊕_}
 use Rattle.binary.specs.Bit.{bit}
-use Rattle.binary.proofs.Xor.{ac, two-pos, by-digit, zero-xor, xor-zero, xor-half, xor-odd}
+use Rattle.binary.proofs.Xor.{ac, is-xor, xor-assoc, two-pos, by-digit, zero-xor, xor-zero, xor-half, xor-odd}
 use Rattle.binary.proofs.Bit.{bit-zero, bit-xor, digit-times-xor}
 use Rattle.linear.specs.Directions.{choose}
 
@@ -68,3 +70,25 @@ module _ (P : ℕ → Type 0) (z : P 0) (s : (a b : ℕ) → P a → P b → P (
 -- a bit that is 0 in every entry
 pub choose-clear : (u : ℕ) (ds : List ℕ) → ((i : ℕ) → i < length ds → bit u (getD ds i 0) ≡ 0) → (k : ℕ) → bit u (choose ds k) ≡ 0
 choose-clear u = choose-all (λ (x : ℕ). bit u x ≡ 0) (bit-zero u) (λ a b p q. bit-xor u a b ∙ rw (p, q) (zero-xor 0))
+
+-- one direction taken off the front: what is added, and what the rest still chooses, make the same
+pub choose-next : (ds : List ℕ) (i v d q w : ℕ) → i < length ds → d ≡ q % 2 * getD ds i 0 → v ⊕ choose (drop i ds) q ≡ w
+    → bitXor v d ⊕ choose (drop (i + 1) ds) (q / 2) ≡ w
+unfolding choose
+choose-next ds i v d q w l e h =
+    let f : i + 1 ≡ suc i = omega arith in
+    rw f
+    (ap (λ (x : ℕ). x ⊕ choose (drop (suc i) ds) (q / 2)) (ap (bitXor v) e ∙ sym (is-xor v (q % 2 * getD ds i 0)))
+    ∙ xor-assoc v (q % 2 * getD ds i 0) (choose (drop (suc i) ds) (q / 2))
+    ∙ ap (λ (x : List ℕ). v ⊕ choose x q) (sym (drop-cons ds i 0 l)) ∙ h)
+
+pub choose-done : (ds : List ℕ) (i v q w : ℕ) → length ds ≤ i → v ⊕ choose (drop i ds) q ≡ w → v ≡ w
+unfolding choose
+choose-done ds i v q w l h = sym (xor-zero v) ∙ ap (λ (x : List ℕ). v ⊕ choose x q) (sym (drop-of-length-le ds l)) ∙ h
+
+-- zeros after the directions choose nothing
+pub choose-zeros : (ds : List ℕ) (j n : ℕ) → choose (ds ++ replicate j 0) n ≡ choose ds n
+unfolding choose
+choose-zeros [] zero n = refl
+choose-zeros [] (suc j) n = ap₂ _⊕_ (mul-zero (n % 2)) (choose-zeros [] j (n / 2)) ∙ zero-xor 0
+choose-zeros (d ∷ ds) j n = ap (λ (x : ℕ). n % 2 * d ⊕ x) (choose-zeros ds j (n / 2))

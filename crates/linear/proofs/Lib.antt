@@ -16,3 +16,4 @@ pub mod Subspace
 pub mod Canonical
 pub mod Places
 pub mod Solved
+pub mod Matrix

@@ -4,3 +4,4 @@ pub mod Elimination
 pub mod Directions
 pub mod Reading
 pub mod Solution
+pub mod Matrix

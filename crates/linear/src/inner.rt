@@ -1,3 +1,5 @@
 // Code that asks something of its caller (each `requires` says what).
 pub mod elimination;
+pub mod place;
 pub mod solution;
+pub mod system;
