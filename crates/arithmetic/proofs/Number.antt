@@ -10,14 +10,12 @@ use lib.Dec.{eqb}
 use lib.Pow.{pow-mono, pow-pos}
 use borrow.Author.Count.{below-more}
 use borrow.Author.Tests.{eq-eqb, ne-eqb, eqb-true, eqb-false, lt-ltb, le-ltb}
-use Rattle.binary.specs.Remainder.{remainder}
 use Rattle.binary.specs.Product.{product, Modulus, timesX}
 use Rattle.galois.specs.Field.{Field}
 use Rattle.galois.specs.Power.{power}
 use Rattle.galois.proofs.Cyclic.{power-reduced, exponent-lt}
-use Rattle.binary.proofs.Modulus.{timesX-lt}
+use Rattle.binary.proofs.Modulus.{timesX-lt, product-two}
 use Rattle.algebra.proofs.Search.{first-is, first-none, found}
-use Rattle.binary.proofs.Shift.{shift-is}
 use Rattle.arithmetic.specs.Number.{numbered, numberOf, elementOf}
 
 numbered-some : (n e : ℕ) → e < n → numbered n e ≡ e + 1
@@ -36,10 +34,6 @@ pub record Tried (m p a x e : ℕ) : Type 0 where
   pub none : (j : ℕ) → j < e → eqb (power p 2 j) a ≡ false
 
 module _ (m p a : ℕ) (M : Modulus m p) where
-  step : (x : ℕ) → product p 2 x ≡ timesX p x
-  unfolding product timesX
-  step x = ap (λ (v : ℕ). remainder v p) (shift-is 1 x)
-
   pub tried-start : Tried m p a 1 0
   unfolding power
   tried-start =
@@ -53,7 +47,7 @@ module _ (m p a : ℕ) (M : Modulus m p) where
         record {
           few = omega arith;
           small = rw ed (timesX-lt m p (M .degree) x);
-          now = ed ∙ sym (step x) ∙ ap (product p 2) (R .now) ∙ ap (power p 2) (sym (add-one e));
+          now = ed ∙ sym (product-two p x) ∙ ap (product p 2) (R .now) ∙ ap (power p 2) (sym (add-one e));
           none = below-more _ _ (R .none) (ne-eqb (power p 2 e) a (λ z. n (R .now ∙ z)));
         }
 

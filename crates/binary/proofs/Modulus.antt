@@ -12,6 +12,12 @@ use Rattle.binary.proofs.Times.{times-step, times-comm, times-double, o
 use Rattle.binary.specs.Remainder.{remainder}
 use Rattle.binary.proofs.Remainder.{remainder-lt, remainder-small, remainder-of, remainder-of-sum, remainder-of-product}
 use Rattle.binary.specs.Product.{product, timesX}
+use Rattle.binary.proofs.Shift.{shift-is}
+
+-- the product with the polynomial x is a shift
+pub product-two : (p x : ℕ) → product p 2 x ≡ timesX p x
+unfolding product timesX
+product-two p x = ap (λ (v : ℕ). remainder v p) (shift-is 1 x)
 
 digit-lt : (k d x : ℕ) → d < 2 → x < 2 ^ k → d * x < 2 ^ k
 digit-lt k d x h l = by-digit (λ (d : ℕ). d * x < 2 ^ k) (rw zero-mul (pow-pos k)) (rw one-mul l) d h

@@ -6,6 +6,7 @@ use native.Mathlib.Omega.{arith}
 use lib.Pow.{pow-pos, shl-exact}
 use Rattle.binary.specs.Xor.{_⊕_, Degree}
 use Rattle.binary.proofs.Xor.{xor-zero, exp-lt, same-top}
+use Rattle.binary.proofs.Bit.{degree-pow}
 use Rattle.binary.specs.Times.{times}
 use Rattle.binary.proofs.Times.{one-times, double-times, times-degree}
 use Rattle.binary.specs.Remainder.{remainder}
@@ -17,14 +18,11 @@ shift-is (suc j) b =
     ap (λ (v : ℕ). times v b) (pow-suc 2 j) ∙ double-times (2 ^ j) b ∙ ap (λ (v : ℕ). v * 2) (shift-is j b)
     ∙ mul-assoc b (2 ^ j) 2 ∙ ap (λ (v : ℕ). b * v) (sym (pow-suc 2 j))
 
-pub power-deg : (j : ℕ) → Degree j (2 ^ j)
-power-deg j = let w = pow-pos j in (omega arith, omega arith)
-
 -- b of degree d, shifted to degree i
 pub aligned : (d i b : ℕ) → Degree d b → d ≤ i → Degree i (b * 2 ^ (i - d))
 aligned d i b db h =
     let e : (i - d) + d ≡ i = omega arith in
-    rw (shift-is (i - d) b, e) at (times-degree (i - d) d (2 ^ (i - d)) b (power-deg (i - d)) db)
+    rw (shift-is (i - d) b, e) at (times-degree (i - d) d (2 ^ (i - d)) b (degree-pow (i - d)) db)
 
 -- with the top digit gone, the remainder is the same
 pub lowered-mod : (d i a b : ℕ) → Degree d b → Degree i a → d ≤ i → remainder (a ⊕ b * 2 ^ (i - d)) b ≡ remainder a b

@@ -13,7 +13,7 @@ use Rattle.binary.proofs.Xor.{has-degree, exp-lt}
 use Rattle.binary.proofs.Inverse.{no-divisor}
 use Rattle.binary.proofs.Factor.{degree-is, divides-times, factor-free}
 use Rattle.field.specs.Limits.{smallestDegree, largestDegree, polynomialFloor, polynomialCeiling}
-use Rattle.field.specs.Refusal.{gives, unlessRefused, refusal, polynomialTests}
+use Rattle.field.specs.Refusal.{turnedDown, gives, answerBy, refusal, polynomialTests}
 use Rattle.field.specs.House.{houseEntry}
 use Rattle.field.specs.Calls.{acceptOutcome}
 use Rattle.field.proofs.Refusal.{accepted, accepted-range, in-range, has-factor, degree-of, two-le}
@@ -25,7 +25,7 @@ pub record Acceptable (p : ℕ) : Type 0 where
   pub ceiling : p < polynomialCeiling
   pub prime : (i d q : ℕ) → Degree i d → 1 ≤ i → i < degreeOf p → times q d ≢ p
 
-not-refused : (n v : ℕ) → unlessRefused n v ≡ gives v → n ≡ 0
+not-refused : (n v : ℕ) → answerBy n turnedDown (gives v) ≡ gives v → n ≡ 0
 not-refused zero v e = refl
 not-refused (suc n) v e = let z : _≡_ {A = ℕ} 0 1 = cc in absurd (omega arith)
 

@@ -17,7 +17,7 @@ use Rattle.binary.proofs.Xor.{has-degree, exp-lt}
 use Rattle.binary.proofs.Factor.{degree-is, test-irreducible}
 use Rattle.field.specs.Limits.{polynomialFloor, polynomialCeiling, largestDegree}
 use Rattle.field.specs.Accepted.{Accepted}
-use Rattle.field.specs.Refusal.{Test, _⇒_, refusal, turnedDown, gives, unlessRefused, outcome, outOfRange, hasFactor, tooLarge, polynomialTests, elementTests, elementsTests}
+use Rattle.field.specs.Refusal.{Test, _⇒_, refusal, turnedDown, gives, answerBy, outcome, outOfRange, hasFactor, tooLarge, polynomialTests, elementTests, elementsTests}
 
 -- every number is one of the table's, and none is 0
 abbrev pub proper : List Test → Bool
@@ -61,15 +61,21 @@ pub then-kept : (ts us : List Test) (r : ℕ) → r ≡ refusal ts → r ≢ 0 �
 then-kept ts us r e n = e ∙ sym (refusal-kept ts us (λ z. n (e ∙ z)))
 
 -- what a call answers: turned down where a test applies, else its value
-pub down : (r v : ℕ) (ts : List Test) → r ≡ refusal ts → r ≢ 0 → turnedDown r ≡ outcome ts v
-down r v ts e n = go r n ∙ ap (λ (k : ℕ). unlessRefused k v) e
+pub refused-by : {A : Type 0} (refused : ℕ → A) (v : A) (r : ℕ) (ts : List Test) → r ≡ refusal ts → r ≢ 0 → refused r ≡ answerBy (refusal ts) refused v
+refused-by {A} refused v r ts e n = go r n ∙ ap (λ (k : ℕ). answerBy k refused v) e
   where
-    go : (r : ℕ) → r ≢ 0 → turnedDown r ≡ unlessRefused r v
+    go : (r : ℕ) → r ≢ 0 → refused r ≡ answerBy r refused v
     go zero h = absurd (h refl)
     go (suc r) h = refl
 
+pub answered-by : {A : Type 0} (refused : ℕ → A) (v : A) (ts : List Test) → refusal ts ≡ 0 → v ≡ answerBy (refusal ts) refused v
+answered-by refused v ts e = ap (λ (k : ℕ). answerBy k refused v) (sym e)
+
+pub down : (r v : ℕ) (ts : List Test) → r ≡ refusal ts → r ≢ 0 → turnedDown r ≡ outcome ts v
+down r v ts e n = refused-by turnedDown (gives v) r ts e n
+
 pub given : (v w : ℕ) (ts : List Test) → refusal ts ≡ 0 → v ≡ w → gives v ≡ outcome ts w
-given v w ts e q = ap gives q ∙ ap (λ (k : ℕ). unlessRefused k w) (sym e)
+given v w ts e q = ap gives q ∙ answered-by turnedDown (gives w) ts e
 
 -- and the same where one more test follows those that a function made
 pub down-first : (r v : ℕ) (ts us : List Test) → r ≡ refusal ts → r ≢ 0 → turnedDown r ≡ outcome (ts ++ us) v

@@ -1,5 +1,6 @@
 -- Any two answers that a promise permits are the same one: an answer is got back from what its number and value say. Assumes nothing.
 use mathlib.Core.Path.{_≡_, refl, sym, ap, _∙_}
+use Prim.Native.Nat.{ℕ}
 use Rattle.field.specs.Refusal.{Outcome, turnedDown, gives}
 use Rattle.field.specs.Answers.{ofDegree, ofElement, ofTrace, ofNumber, ofPolynomial}
 use Rattle.field.specs.declared.DegreeAnswer.{DegreeAnswer}
@@ -14,13 +15,13 @@ use Rattle.field.specs.declared.PolynomialAnswer.{PolynomialAnswer}
 use Rattle.field.specs.declared.PolynomialAnswer.the-variants as polynomial
 
 -- what has a way back is one to one
-one : (A : Type 0) (of : A → Outcome) (back : Outcome → A) → ((r : A) → back (of r) ≡ r) → (r s : A) → of r ≡ of s → r ≡ s
+one : (A : Type 0) (of : A → Outcome ℕ) (back : Outcome ℕ → A) → ((r : A) → back (of r) ≡ r) → (r s : A) → of r ≡ of s → r ≡ s
 one A of back h r s e = sym (h r) ∙ ap back e ∙ h s
 
 pub one-degree : (r s : DegreeAnswer) → ofDegree r ≡ ofDegree s → r ≡ s
 one-degree = one DegreeAnswer ofDegree back same
   where
-    back : Outcome → DegreeAnswer
+    back : Outcome ℕ → DegreeAnswer
     back (turnedDown n) = degree.TurnedDown n
     back (gives v) = degree.Degree v
 
@@ -31,7 +32,7 @@ one-degree = one DegreeAnswer ofDegree back same
 pub one-element : (r s : ElementAnswer) → ofElement r ≡ ofElement s → r ≡ s
 one-element = one ElementAnswer ofElement back same
   where
-    back : Outcome → ElementAnswer
+    back : Outcome ℕ → ElementAnswer
     back (turnedDown n) = element.TurnedDown n
     back (gives v) = element.Found (record { 0 = v })
 
@@ -42,7 +43,7 @@ one-element = one ElementAnswer ofElement back same
 pub one-trace : (r s : TraceAnswer) → ofTrace r ≡ ofTrace s → r ≡ s
 one-trace = one TraceAnswer ofTrace back same
   where
-    back : Outcome → TraceAnswer
+    back : Outcome ℕ → TraceAnswer
     back (turnedDown n) = trace.TurnedDown n
     back (gives v) = trace.Trace v
 
@@ -53,7 +54,7 @@ one-trace = one TraceAnswer ofTrace back same
 pub one-number : (r s : NumberAnswer) → ofNumber r ≡ ofNumber s → r ≡ s
 one-number = one NumberAnswer ofNumber back same
   where
-    back : Outcome → NumberAnswer
+    back : Outcome ℕ → NumberAnswer
     back (turnedDown n) = number.TurnedDown n
     back (gives v) = number.Found (record { 0 = v })
 
@@ -64,7 +65,7 @@ one-number = one NumberAnswer ofNumber back same
 pub one-polynomial : (r s : PolynomialAnswer) → ofPolynomial r ≡ ofPolynomial s → r ≡ s
 one-polynomial = one PolynomialAnswer ofPolynomial back same
   where
-    back : Outcome → PolynomialAnswer
+    back : Outcome ℕ → PolynomialAnswer
     back (turnedDown n) = polynomial.TurnedDown n
     back (gives v) = polynomial.Polynomial v
 

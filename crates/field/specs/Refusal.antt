@@ -3,6 +3,8 @@ use mathlib.Core.Bool.{Bool, true, false, not, _||_}
 use mathlib.Core.List.{List, [], _∷_, _++_}
 use Prim.Native.Nat.{ℕ, zero, suc, _^_}
 use lib.Dec.{leb, ltb}
+use lib.ListN.{length, getD}
+use Rattle.algebra.specs.Search.{someBelow}
 use Rattle.binary.specs.Factor.{degreeOf, factorFree}
 use Rattle.field.specs.Limits.{polynomialFloor, polynomialCeiling}
 
@@ -17,18 +19,18 @@ refusal [] = 0
 refusal ((b ⇒ n) ∷ ts) = elim b [ true ↦ n | false ↦ refusal ts ]
 
 -- what a call says: turned down by a number of the table, or a value
-pub data Outcome : Type 0 where
-  turnedDown : ℕ → Outcome
-  gives : ℕ → Outcome
+pub data Outcome (A : Type 0) : Type 0 where
+  turnedDown : ℕ → Outcome A
+  gives : A → Outcome A
 
--- "a call turned down returns its number, every other part of the answer 0": it has no value
-abbrev pub unlessRefused : ℕ → ℕ → Outcome
-unlessRefused zero v = gives v
-unlessRefused (suc n) v = turnedDown (suc n)
+-- "a call turned down returns its number, every other part of the answer 0": the first where a test applies, else the second
+abbrev pub answerBy : {A : Type 0} → ℕ → (ℕ → A) → A → A
+answerBy zero refused v = v
+answerBy (suc n) refused v = refused (suc n)
 
 -- a call with these tests and this value
-abbrev pub outcome : List Test → ℕ → Outcome
-outcome ts v = unlessRefused (refusal ts) v
+abbrev pub outcome : {A : Type 0} → List Test → A → Outcome A
+outcome ts v = answerBy (refusal ts) turnedDown (gives v)
 
 -- 1: "field polynomial below 4 or at least 131072"
 unfoldable pub outOfRange : ℕ → Bool
@@ -41,6 +43,10 @@ hasFactor p = not (factorFree (degreeOf p) p)
 -- 4: "an element or coefficient is 2^m or more, or a logarithm number too large"
 unfoldable pub tooLarge : ℕ → ℕ → Bool
 tooLarge p a = leb (2 ^ degreeOf p) a
+
+-- 4, of a list of coefficients
+unfoldable pub anyTooLarge : ℕ → List ℕ → Bool
+anyTooLarge p cs = someBelow (λ i. tooLarge p (getD cs i 0)) (length cs)
 
 -- "every public call that works in a field takes this number and tests it"
 abbrev pub polynomialTests : ℕ → List Test

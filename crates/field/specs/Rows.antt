@@ -10,7 +10,7 @@ use Rattle.field.specs.Calls.{powerOutcome, traceOutcome, numberOutcome}
 infix 70 _says_
 -- a row: what a call says, and the table's value
 pub data Row : Type 0 where
-  _says_ : Outcome → ℕ → Row
+  _says_ : Outcome ℕ → ℕ → Row
 
 -- the call gives that value
 unfoldable pub rowHolds : Row → Bool

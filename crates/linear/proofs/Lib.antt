@@ -10,6 +10,7 @@ pub mod Taken
 pub mod Gathered
 pub mod Order
 pub mod Choose
+pub mod Doubling
 pub mod Listed
 pub mod Echelon
 pub mod Subspace

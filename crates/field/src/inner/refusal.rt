@@ -6,7 +6,7 @@ ghost use lib.IntN.{pos};
 ghost use lib.Signed.{ltZ};
 ghost use Rattle.binary.specs.Factor.{degreeOf};
 ghost use Rattle.field.specs.Accepted.{Accepted};
-ghost use Rattle.field.specs.Refusal.{refusal, tooLarge, polynomialTests, elementTests, elementsTests};
+ghost use Rattle.field.specs.Refusal.{refusal, tooLarge, anyTooLarge, polynomialTests, elementTests, elementsTests};
 use crate::limits::POLYNOMIAL_CEILING;
 use crate::limits::POLYNOMIAL_FLOOR;
 use crate::refused;
@@ -44,6 +44,19 @@ fn too_large(p: u32, a: u32) -> bool
     ensures { λ r. ⌜ r ≡ tooLarge p a ⌝ }
 {
     power_of_two(degree_of(p)) <= a
+}
+
+// Whether one of the coefficients is no element of the field.
+pub fn any_too_large(p: u32, coefficients: &[u32]) -> bool
+    requires { ⌜ Accepted p ⌝ }
+    ensures { λ r. ⌜ r ≡ anyTooLarge p (now (coefficients .entry)) ⌝ }
+{
+    for i in 0..coefficients.len() {
+        if too_large(p, coefficients[i]) {
+            return true;
+        }
+    }
+    false
 }
 
 pub fn of_element(p: u32, a: u32) -> u32

@@ -1,0 +1,2 @@
+// Affine equations over GF(2^m).
+pub mod inner;
