@@ -1,1 +1,5 @@
+pub mod Tests
 pub mod Terms
+pub mod Matrix
+pub mod Found
+pub mod Listing

@@ -1,13 +1,13 @@
 -- What a search finds (`first-from`, `first-is`, `first-none`, `found`), and what a test of some or of all numbers below n shows
 -- (`some-yes`, `some-not`, `some-one`, `some-none`, `every-below`, `not-every-below`, `every-at`). Assumes nothing.
-use mathlib.Core.Path.{_≡_, refl, sym, ap, _∙_, subst}
+use mathlib.Core.Path.{_≡_, refl, sym, ap, ap₂, _∙_, subst}
 use mathlib.Core.Bool.{Bool, true, false, not, _&&_, and-false, false≢true}
-use mathlib.Core.Logic.{_⊎_, inl, inr}
+use mathlib.Core.Logic.{_⊎_, inl, inr, _↔_}
 use Prim.Native.Nat.{ℕ, zero, suc, _+_, _≤_, _<_}
 use native.Mathlib.Nat.{eq-or-lt-of-le}
 use native.Mathlib.Decide.{ℕ-discrete}
 use native.Mathlib.Omega.{arith}
-use lib.Dec.{T, ltb→lt, nltb→le}
+use lib.Dec.{T, ltb, ltb→lt, nltb→le}
 use borrow.Author.Count.{below-more}
 use Rattle.algebra.specs.Search.{firstFrom, first, someBelow, everyBelow}
 
@@ -128,3 +128,25 @@ module _ (f : ℕ → Bool) where
       go : (b : Bool) → f j ≡ b → f j ≡ true
       go true q = q
       go false q = absurd (false≢true (sym (not-every-below n j l q) ∙ e))
+
+-- two tests that agree on what is searched find the same
+from-same : (f g : ℕ → Bool) (n i : ℕ) → ((j : ℕ) → j < i + n → f j ≡ g j) → firstFrom f n i ≡ firstFrom g n i
+unfolding firstFrom
+from-same f g zero i h = refl
+from-same f g (suc n) i h =
+    ap₂ (λ (b : Bool) (k : ℕ). elim b as (λ (_ : Bool). ℕ) [ true ↦ i | false ↦ k ]) (h i (omega arith))
+    (from-same f g n (suc i) (λ j l. h j (omega arith)))
+
+pub first-same : (f g : ℕ → Bool) (n : ℕ) → ((j : ℕ) → j < n → f j ≡ g j) → first f n ≡ first g n
+unfolding first
+first-same f g n h = from-same f g n 0 (λ j l. h j (omega arith))
+
+pub some-same : (f g : ℕ → Bool) (n : ℕ) → ((j : ℕ) → j < n → f j ≡ g j) → someBelow f n ≡ someBelow g n
+unfolding someBelow
+some-same f g n h = ap (λ (k : ℕ). ltb k n) (first-same f g n h)
+
+-- tests that say yes to the same
+pub same-test : (a b : Bool) → (a ≡ true) ↔ (b ≡ true) → a ≡ b
+same-test true b h = sym (h .0 refl)
+same-test false true h = h .1 refl
+same-test false false h = refl

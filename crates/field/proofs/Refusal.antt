@@ -174,8 +174,8 @@ pub too-large : (p a : ℕ) → 2 ^ degreeOf p ≤ a → tooLarge p a ≡ true
 unfolding tooLarge
 too-large p a h = le-leb (2 ^ degreeOf p) a h
 
-small : (p a : ℕ) → tooLarge p a ≡ false → a < 2 ^ degreeOf p
-small p a e = go (decLe (2 ^ degreeOf p) a)
+pub element-small : (p a : ℕ) → tooLarge p a ≡ false → a < 2 ^ degreeOf p
+element-small p a e = go (decLe (2 ^ degreeOf p) a)
   where
     go : Dec (2 ^ degreeOf p ≤ a) → a < 2 ^ degreeOf p
     go (yes h) = absurd (false≢true (sym e ∙ too-large p a h))
@@ -186,11 +186,11 @@ element-passed p a e =
     let t = passes (elementTests p a) tt e in
     let first = t .0 in
     let second = t .1 .0 in
-    (passed p (search needs) (search needs), small p a (t .1 .1 .0))
+    (passed p (search needs) (search needs), element-small p a (t .1 .1 .0))
 
 pub elements-passed : (p a b : ℕ) → refusal (elementsTests p a b) ≡ 0 → Accepted p × (a < 2 ^ degreeOf p) × (b < 2 ^ degreeOf p)
 elements-passed p a b e =
     let t = passes (elementsTests p a b) tt e in
     let first = t .0 in
     let second = t .1 .0 in
-    (passed p (search needs) (search needs), small p a (t .1 .1 .0), small p b (t .1 .1 .1 .0))
+    (passed p (search needs) (search needs), element-small p a (t .1 .1 .0), element-small p b (t .1 .1 .1 .0))

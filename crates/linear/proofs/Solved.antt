@@ -11,7 +11,7 @@ use lib.Dec.{T, eqb, eqb→eq}
 use lib.ListN.{length, getD, List·getD-eq-default}
 use lib.Pow.{pow-mono}
 use Rattle.algebra.specs.Search.{first, someBelow, everyBelow}
-use Rattle.algebra.proofs.Search.{first-is, some-yes, some-not, some-one, some-none, every-below, every-at}
+use Rattle.algebra.proofs.Search.{first-is, some-yes, some-not, some-one, some-none, some-same, first-same, every-below, every-at}
 use Rattle.binary.specs.Xor.{Degree}
 use Rattle.binary.specs.Bit.{bit}
 use Rattle.binary.proofs.Bit.{bit-zero}
@@ -28,7 +28,7 @@ use Rattle.linear.proofs.Pivots.{Pivots, pivots, candidate-yes, candida
 use Rattle.linear.proofs.Project.{kernel-top}
 use Rattle.linear.proofs.Least.{along, Consistent, base-lt, base-solves, solves-consistent, base-least, direction-kernel, direction-degree, direction-least}
 use Rattle.linear.proofs.Taken.{taken-yes, taken-not}
-use Rattle.linear.proofs.Listed.{Listed, done, skip, keep, listed-unique, listed-same, listed-search}
+use Rattle.linear.proofs.Listed.{Listed, done, skip, keep, listed-unique, listed-same, listed-search, directions-same}
 
 -- ---- the tests say what they should
 
@@ -57,6 +57,13 @@ solves-test m l v small = (
   ),
   λ k. every-below (λ i. eqb (dot (getD l i 0) v) (bit m (getD l i 0))) (length l) (λ i h. eq-eqb _ _ (k .1 i)),
 )
+
+-- the solution turns on what the tests say below 2 ^ m
+pub solution-same : (m : ℕ) (g h f k : ℕ → Bool) → ((x : ℕ) → x < 2 ^ m → g x ≡ h x) → ((x : ℕ) → x < 2 ^ m → f x ≡ k x)
+    → solutionBy m g f ≡ solutionBy m h k
+unfolding solutionBy
+solution-same m g h f k a b =
+    λ i. solutionIf (some-same g h (2 ^ m) a i) (first-same g h (2 ^ m) a i) (directions-same f k m b i)
 
 -- ---- the reduced rows
 

@@ -1,55 +1,57 @@
+-- `columns_of` meets its contract. Assumes nothing.
+use Prim.Native.Nat.{ℕ, _-_}
+use native.Mathlib.Omega.{arith}
+use borrow.Author.Needs.{needs}
+use lib.ListN.{length}
+use Rattle.affine.proofs.Terms.{SomeTerms, terms-start, terms-turn, terms-end, coeff-at, step-lt}
 use Rattle.affine.proofs.inner.columns.columns_of.Statement.{statement}
 use Rattle.affine.proofs.inner.columns.columns_of.Tie as tie
-use Rattle.affine.proofs.inner.columns.columns_of.Reads as reads
-use Rattle.affine.proofs.inner.columns.columns_of.Lts as lts
-use Rattle.affine.proofs.inner.columns.with_term.Reads as with-term-reads
-use Rattle.binary.proofs.inner.modulo.product.Reads as product-reads
 
 abbrev Inv-loop : tie.InvT-loop
-Inv-loop p m linear columns₀ step₀ i₀ i-end columns step i = ?
+Inv-loop p m linear columns₀ step₀ i₀ i-end columns step i = SomeTerms m p linear columns step i
 
 abbrev μ-loop : tie.MeasureT-loop
-μ-loop p m linear columns₀ step₀ i₀ i-end columns step i = ?
+μ-loop p m linear columns₀ step₀ i₀ i-end columns step i = i-end - i
 
--- src/inner/columns.rt:64:5
 loop-holds : tie.Need-loop-holds Inv-loop μ-loop
-loop-holds c = ?
+loop-holds c = terms-start _ _ _ (c .before .pre .1)
 
--- src/inner/columns.rt:65:17
 mul-l : tie.Need-mul-l Inv-loop μ-loop
-mul-l c = ?
+mul-l c = search needs
 
--- src/inner/columns.rt:65:17
 shared-slice-read-l : tie.Need-shared-slice-read-l Inv-loop μ-loop
-shared-slice-read-l c = ?
+shared-slice-read-l c = search needs
 
--- src/inner/columns.rt:66:48
 cast-with-term : tie.Need-cast-with-term Inv-loop μ-loop
-cast-with-term c = ?
+cast-with-term c = search needs
 
--- src/inner/columns.rt:66:13
 with-term-requires : tie.Need-with-term-requires Inv-loop μ-loop
-with-term-requires c κs = ?
+with-term-requires c κs =
+    let q = c .before .before .before .before .pre in
+    let l = c .before .before .loop in
+    (q .0, q .1, coeff-at _ (c .before .before .before .before .args .linear .now) (l .i) (q .3), l .inv .step-now)
 
--- src/inner/columns.rt:68:9
 product-requires : tie.Need-product-requires Inv-loop μ-loop
-product-requires c κs = ?
+product-requires c κs =
+    let q = c .before .before .before .before .before .pre in
+    let l = c .before .before .before .loop in
+    let small = rw (← l .inv .step-now) at (step-lt _ _ (q .0 .field) (q .0 .modulus) (l .i)) in
+    (q .0 .modulus, small, small)
 
--- src/inner/columns.rt:64:9
 add-i : tie.Need-add-i Inv-loop μ-loop
-add-i c = ?
+add-i c = search needs
 
--- src/inner/columns.rt:64:5
 loop-less : tie.Need-loop-less Inv-loop μ-loop
-loop-less c = ?
+loop-less c = search needs
 
--- src/inner/columns.rt:64:5
 loop-again : tie.Need-loop-again Inv-loop μ-loop
-loop-again c = ?
+loop-again c =
+    let q = c .before .before .before .before .before .before .pre in
+    let l = c .before .before .before .before .loop in
+    terms-turn _ _ (q .0 .field) _ (l .columns) _ (l .step) (l .i) _ (omega arith) (search needs) (c .before .with-term .ensures) (c .product .ensures) (l .inv)
 
--- src/inner/columns.rt:58:1
 returns : tie.Need-returns Inv-loop μ-loop
-returns c = ?
+returns c = terms-end _ _ _ _ (c .before .loop .step) (c .before .loop .i) (omega arith) (c .before .loop .inv)
 
 pub columns-of-spec : {M : Type 1} → statement M
 columns-of-spec =
