@@ -3,3 +3,8 @@ pub mod Terms
 pub mod Matrix
 pub mod Found
 pub mod Listing
+pub mod Theorems
+pub mod Bounds
+pub mod Squares
+pub mod Unique
+pub mod Rows

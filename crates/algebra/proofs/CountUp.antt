@@ -51,6 +51,13 @@ keep-ascending t (x ∷ xs) a = go (t x) (keep-ascending t xs (a .1))
     go true r = (λ y h. a .0 y (of-keep t xs y h .0), r)
     go false r = r
 
+-- a test that every entry passes
+pub keep-all : (t : ℕ → Bool) (xs : List ℕ) → ((x : ℕ) → Member x xs → t x ≡ true) → keep t xs ≡ xs
+keep-all t [] h = refl
+keep-all t (x ∷ xs) h =
+    ap₂ (λ (b : Bool) (l : List ℕ). elim b as (λ (_ : Bool). List ℕ) [ true ↦ x ∷ l | false ↦ l ]) (h x (inl refl))
+    (keep-all t xs (λ y k. h y (inr k)))
+
 -- a function that keeps the order keeps a list ascending
 pub map-ascending : (f : ℕ → ℕ) (n : ℕ) → ((k j : ℕ) → k < j → j < n → f k < f j) → (xs : List ℕ) → Ascending xs
     → ((x : ℕ) → Member x xs → x < n) → Ascending (map f xs)

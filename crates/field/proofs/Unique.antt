@@ -15,11 +15,11 @@ use Rattle.field.specs.declared.PolynomialAnswer.{PolynomialAnswer}
 use Rattle.field.specs.declared.PolynomialAnswer.the-variants as polynomial
 
 -- what has a way back is one to one
-one : (A : Type 0) (of : A → Outcome ℕ) (back : Outcome ℕ → A) → ((r : A) → back (of r) ≡ r) → (r s : A) → of r ≡ of s → r ≡ s
-one A of back h r s e = sym (h r) ∙ ap back e ∙ h s
+pub one-by-back : {A B : Type 0} (of : A → B) (back : B → A) → ((r : A) → back (of r) ≡ r) → (r s : A) → of r ≡ of s → r ≡ s
+one-by-back of back h r s e = sym (h r) ∙ ap back e ∙ h s
 
 pub one-degree : (r s : DegreeAnswer) → ofDegree r ≡ ofDegree s → r ≡ s
-one-degree = one DegreeAnswer ofDegree back same
+one-degree = one-by-back ofDegree back same
   where
     back : Outcome ℕ → DegreeAnswer
     back (turnedDown n) = degree.TurnedDown n
@@ -30,7 +30,7 @@ one-degree = one DegreeAnswer ofDegree back same
     same (degree.Degree m) = refl
 
 pub one-element : (r s : ElementAnswer) → ofElement r ≡ ofElement s → r ≡ s
-one-element = one ElementAnswer ofElement back same
+one-element = one-by-back ofElement back same
   where
     back : Outcome ℕ → ElementAnswer
     back (turnedDown n) = element.TurnedDown n
@@ -41,7 +41,7 @@ one-element = one ElementAnswer ofElement back same
     same (element.Found a) = refl
 
 pub one-trace : (r s : TraceAnswer) → ofTrace r ≡ ofTrace s → r ≡ s
-one-trace = one TraceAnswer ofTrace back same
+one-trace = one-by-back ofTrace back same
   where
     back : Outcome ℕ → TraceAnswer
     back (turnedDown n) = trace.TurnedDown n
@@ -52,7 +52,7 @@ one-trace = one TraceAnswer ofTrace back same
     same (trace.Trace t) = refl
 
 pub one-number : (r s : NumberAnswer) → ofNumber r ≡ ofNumber s → r ≡ s
-one-number = one NumberAnswer ofNumber back same
+one-number = one-by-back ofNumber back same
   where
     back : Outcome ℕ → NumberAnswer
     back (turnedDown n) = number.TurnedDown n
@@ -63,7 +63,7 @@ one-number = one NumberAnswer ofNumber back same
     same (number.Found a) = refl
 
 pub one-polynomial : (r s : PolynomialAnswer) → ofPolynomial r ≡ ofPolynomial s → r ≡ s
-one-polynomial = one PolynomialAnswer ofPolynomial back same
+one-polynomial = one-by-back ofPolynomial back same
   where
     back : Outcome ℕ → PolynomialAnswer
     back (turnedDown n) = polynomial.TurnedDown n

@@ -1,7 +1,7 @@
 -- D5: an affine polynomial stays in the field, its linear part takes sums to sums (`linearAt-xor`), and it is additive up to its constant
--- (`affineAt-xor`). Assumes nothing.
-use mathlib.Core.Path.{_≡_, sym, ap, ap₂, _∙_}
-use mathlib.Core.List.{List, [], _∷_}
+-- (`affineAt-xor`); coefficients that are 0 (`linearAt-zero`, `linearAt-zeros`). Assumes nothing.
+use mathlib.Core.Path.{_≡_, refl, sym, ap, ap₂, _∙_}
+use mathlib.Core.List.{List, [], _∷_, _++_}
 use Prim.Native.Nat.{ℕ, _^_, _<_}
 use lib.Pow.{pow-pos}
 use Rattle.binary.specs.Xor.{_⊕_}
@@ -10,8 +10,21 @@ use Rattle.binary.proofs.Additive.{Additive}
 use Rattle.binary.specs.Product.{product}
 use Rattle.binary.proofs.Product.{product-xor}
 use Rattle.galois.specs.Field.{Field}
-use Rattle.galois.proofs.Power.{mul-lt, square-xor}
+use Rattle.galois.specs.Polynomial.{AllZero}
+use Rattle.galois.proofs.Power.{zero-product, mul-lt, square-xor}
 use Rattle.galois.specs.Affine.{linearAt, affineAt}
+
+-- every coefficient 0: the value 0
+pub linearAt-zero : (p : ℕ) (ls : List ℕ) (x : ℕ) → AllZero ls → linearAt p ls x ≡ 0
+unfolding linearAt
+linearAt-zero p [] x z = refl
+linearAt-zero p (l ∷ ls) x z = ap₂ _⊕_ (ap (λ (v : ℕ). product p v x) (z .0) ∙ zero-product p x) (linearAt-zero p ls (product p x x) (z .1)) ∙ zero-xor 0
+
+-- zeros after the coefficients change nothing
+pub linearAt-zeros : (p : ℕ) (ls zs : List ℕ) (x : ℕ) → AllZero zs → linearAt p (ls ++ zs) x ≡ linearAt p ls x
+unfolding linearAt
+linearAt-zeros p [] zs x z = linearAt-zero p zs x z
+linearAt-zeros p (l ∷ ls) zs x z = ap (λ (v : ℕ). product p l x ⊕ v) (linearAt-zeros p ls zs (product p x x) z)
 
 module _ (m p : ℕ) (F : Field m p) where
   pub linearAt-lt : (ls : List ℕ) (x : ℕ) → linearAt p ls x < 2 ^ m
