@@ -1,8 +1,8 @@
 -- How many directions there can be: an equation whose highest term is x^(2^i) has at most i (`directions-at-most`). Assumes nothing.
-use mathlib.Core.Path.{_≡_, refl, sym, ap, _∙_, subst}
+use mathlib.Core.Path.{_≡_, sym, ap, _∙_, subst}
 use mathlib.Core.Logic.{_≢_}
 use mathlib.Core.Bool.{true}
-use mathlib.Core.List.{List, [], _∷_, _++_, append-assoc}
+use mathlib.Core.List.{List, [], _∷_, _++_}
 use Prim.Native.Nat.{ℕ, _^_, _≤_, _<_}
 use native.Mathlib.Omega.{arith}
 use native.Mathlib.Decide.{decLe}
@@ -19,7 +19,6 @@ use Rattle.galois.specs.Polynomial.{Coeffs, AllZero}
 use Rattle.galois.specs.Affine.{linearAt, affineAt}
 use Rattle.galois.proofs.Affine.{linearAt-xor, linearAt-zeros}
 use Rattle.galois.proofs.AffineList.{affine-few}
-use Rattle.linear.specs.Directions.{directionsFrom}
 use Rattle.field.specs.Accepted.{Accepted}
 use Rattle.affine.specs.Equation.{isRoot, isDirection, allRoots, directionsOf}
 use Rattle.affine.proofs.Matrix.{root-test}

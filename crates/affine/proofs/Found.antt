@@ -1,17 +1,15 @@
 -- What the elimination found, in the terms of the calls' definitions: the answer (`answer-is`), how many roots (`count-is`), the root at a
 -- place (`place-is`), the listing (`listing-is`, `listing-ready`). Assumes nothing.
 use mathlib.Core.Path.{_≡_, refl, sym, ap, ap₂, _∙_}
-use mathlib.Core.Logic.{_≢_}
 use mathlib.Core.Bool.{Bool, true, false}
-use mathlib.Core.List.{List, map, _++_}
+use mathlib.Core.List.{List, map}
 use Prim.Native.Nat.{ℕ, _-_, _^_, _≤_, _<_}
 use native.Mathlib.Omega.{arith}
 use lib.Dec.{eqb}
 use lib.ListN.{length, getD, drop, replicate, List·getD-append}
 use lib.Pow.{pow-mono}
 use Rattle.algebra.specs.Lists.{countUp, keep}
-use Rattle.algebra.specs.Search.{first, someBelow}
-use Rattle.algebra.proofs.Search.{first-below}
+use Rattle.algebra.specs.Search.{someBelow}
 use Rattle.algebra.proofs.CountUp.{map-same}
 use Rattle.binary.specs.Xor.{_⊕_}
 use Rattle.binary.proofs.Xor.{zero-xor}
@@ -21,7 +19,7 @@ use Rattle.galois.specs.Field.{Field}
 use Rattle.galois.specs.Affine.{linearAt, affineAt}
 use Rattle.galois.proofs.Affine.{linearAt-xor, affineAt-xor}
 use Rattle.linear.specs.Limits.{places, width}
-use Rattle.linear.specs.Directions.{directionsFrom, choose}
+use Rattle.linear.specs.Directions.{choose}
 use Rattle.linear.specs.Solution.{placed, solutionIf, solutionBy}
 use Rattle.linear.specs.declared.inner.solution.Solution.{Solution}
 use Rattle.linear.proofs.Choose.{choose-zeros}
@@ -30,7 +28,7 @@ use Rattle.linear.proofs.Canonical.{Coset, Canonical, is-canonical}
 use Rattle.linear.proofs.Places.{places-are-roots, root-count, no-roots}
 use Rattle.affine.specs.Equation.{isRoot, isDirection, allRoots, baseOf, directionsOf, rootAt, solutionOf}
 use Rattle.field.specs.Refusal.{refusal}
-use Rattle.affine.specs.Calls.{equationTests, Answer, solution}
+use Rattle.affine.specs.Calls.{equationTests, solution}
 use Rattle.affine.specs.Answers.{answerOf, rootCount}
 use Rattle.affine.proofs.Tests.{equation-ready}
 use Rattle.affine.proofs.Matrix.{root-test, direction-test}
@@ -144,7 +142,7 @@ module _ (p : ℕ) (cs : List ℕ) (r : Solution) (e : r ≡ solutionOf p cs) wh
       unfolding solutionIf placed
       listing-ready =
           let R = equation-ready p cs z in
-          let h : m ≤ width = R .largest in
+          let h : m ≤ width = omega (arith, R .largest) in
           let w = pow-mono h in
           let C = canonical has-root in (
             rw is-found (omega (arith, C .below)),

@@ -1,29 +1,28 @@
 -- D5: the elimination of an equation's matrix finds what the search for its roots finds (`matrix-solution`). Assumes nothing.
-use mathlib.Core.Path.{_≡_, refl, sym, ap, _∙_, subst}
+use mathlib.Core.Path.{_≡_, sym, ap, _∙_, subst}
 use mathlib.Core.Logic.{_↔_}
-use mathlib.Core.Bool.{Bool, true}
-use mathlib.Core.List.{List, [], _∷_}
+use mathlib.Core.Bool.{true}
+use mathlib.Core.List.{List}
 use Prim.Native.Nat.{ℕ, _^_, _≤_, _<_}
 use native.Mathlib.Omega.{arith}
 use borrow.Author.Tests.{eq-eqb}
 use lib.Dec.{T, eqb, eqb→eq}
-use lib.ListN.{length, getD, drop}
+use lib.ListN.{getD, drop}
 use lib.Pow.{pow-mono}
 use Rattle.algebra.proofs.Search.{same-test}
-use Rattle.binary.specs.Xor.{_⊕_}
 use Rattle.binary.proofs.Xor.{xor-self, equal-of-xor}
 use Rattle.galois.specs.Field.{Field}
 use Rattle.galois.specs.Polynomial.{Coeffs}
 use Rattle.galois.specs.Affine.{linearAt, affineAt}
 use Rattle.galois.proofs.Affine.{linearAt-lt, linearAt-xor}
 use Rattle.linear.specs.Limits.{places}
-use Rattle.linear.specs.System.{Kernel, Solves}
+use Rattle.linear.specs.System.{Kernel}
 use Rattle.linear.specs.Solution.{solutionBy, solvesRows, inKernel}
 use Rattle.linear.specs.Matrix.{rowsOf}
 use Rattle.linear.proofs.Solved.{kernel-test, solves-test, solution-same}
 use Rattle.linear.proofs.Matrix.{rowsOf-same, kernel-of-rows, solves-of-rows}
 use Rattle.affine.specs.Columns.{IsColumns}
-use Rattle.affine.specs.Equation.{isRoot, isDirection, Ready}
+use Rattle.affine.specs.Equation.{isRoot, isDirection}
 use Rattle.affine.proofs.Terms.{coeff-at}
 
 -- what the two tests say

@@ -1,13 +1,13 @@
 -- x² + x = D (C5, C6), as the equation with the coefficients D, 1, 1: no root exactly where the trace of D is 1 (`no-root-exactly`), else
 -- two, y and y + 1 (`two-roots`); for odd m paper 004's sum is one of them (`half-trace-is-root`). Assumes nothing.
-use mathlib.Core.Path.{_≡_, refl, sym, ap, _∙_, subst}
+use mathlib.Core.Path.{_≡_, sym, ap, _∙_, subst}
 use mathlib.Core.Logic.{_⊎_, inl, inr, _↔_}
 use mathlib.Core.Bool.{true}
 use mathlib.Core.List.{List, [], _∷_}
 use Prim.Native.Nat.{ℕ, suc, _*_, _/_, _%_, _^_, _<_}
 use native.Mathlib.Nat.{mod-lt}
 use native.Mathlib.Omega.{arith}
-use Rattle.algebra.specs.Lists.{Member, Ascending}
+use Rattle.algebra.specs.Lists.{Member}
 use Rattle.algebra.proofs.Ascending.{same-ascending}
 use Rattle.binary.specs.Xor.{_⊕_}
 use Rattle.binary.specs.Factor.{degreeOf}

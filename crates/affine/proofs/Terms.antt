@@ -12,7 +12,7 @@ use lib.Seq.{take-all}
 use Rattle.algebra.proofs.Filled.{Filled, filled-none, filled-put}
 use Rattle.binary.specs.Xor.{_⊕_}
 use Rattle.binary.specs.Product.{product, timesX, Modulus}
-use Rattle.binary.proofs.Xor.{is-xor, zero-xor, xor-assoc, xor-comm}
+use Rattle.binary.proofs.Xor.{is-xor, xor-assoc, xor-comm}
 use Rattle.binary.proofs.Remainder.{remainder-small}
 use Rattle.binary.proofs.Product.{product-one, product-comm, product-assoc}
 use Rattle.binary.proofs.Modulus.{product-two}

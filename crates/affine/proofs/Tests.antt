@@ -1,9 +1,9 @@
 -- The tests of an equation: what each says after those before it (`count-applies`, `size-applies`, `all-pass`), and what has passed them
 -- (`equation-ready`). Assumes nothing.
 use mathlib.Core.Path.{_≡_, refl, sym, ap, _∙_, subst}
-use mathlib.Core.Bool.{Bool, true, false, false≢true, _||_, or-true}
+use mathlib.Core.Bool.{true, false, false≢true, or-true}
 use mathlib.Core.List.{List, [], _∷_, _++_}
-use Prim.Native.Nat.{ℕ, zero, suc, _+_, _-_, _^_, _≤_, _<_}
+use Prim.Native.Nat.{ℕ, suc, _+_, _-_, _^_, _≤_, _<_}
 use native.Mathlib.Decide.{ℕ-discrete, decLt}
 use native.Mathlib.Omega.{arith}
 use borrow.Author.Tests.{eq-eqb, lt-ltb}
@@ -13,10 +13,9 @@ use lib.Seq.{take-all}
 use Rattle.algebra.proofs.Search.{some-not}
 use Rattle.binary.specs.Factor.{degreeOf}
 use Rattle.galois.specs.Polynomial.{Coeffs}
-use Rattle.field.specs.Limits.{largestDegree}
 use Rattle.field.specs.Accepted.{Accepted}
 use Rattle.field.specs.Refusal.{Test, _⇒_, refusal, tooLarge, anyTooLarge, polynomialTests}
-use Rattle.field.proofs.Refusal.{then-kept, then-applies, then-passes, refusal-append, passes, accepted, element-small}
+use Rattle.field.proofs.Refusal.{then-kept, then-applies, then-passes, passes, accepted, element-small}
 use Rattle.affine.specs.Equation.{Ready}
 use Rattle.affine.specs.Calls.{wrongCount, equationTests}
 

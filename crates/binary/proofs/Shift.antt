@@ -3,7 +3,7 @@ use mathlib.Core.Path.{_≡_, sym, ap, _∙_}
 use Prim.Native.Nat.{ℕ, zero, suc, _+_, _-_, _*_, _%_, _^_, _≤_, _<_}
 use native.Mathlib.Nat.{mul-one, mul-assoc, pow-suc}
 use native.Mathlib.Omega.{arith}
-use lib.Pow.{pow-pos, shl-exact}
+use lib.Pow.{shl-exact}
 use Rattle.binary.specs.Xor.{_⊕_, Degree}
 use Rattle.binary.proofs.Xor.{xor-zero, exp-lt, same-top}
 use Rattle.binary.proofs.Bit.{degree-pow}

@@ -32,10 +32,6 @@ module _ (m p : ℕ) (F : Field m p) where
   linearAt-lt [] x = pow-pos m
   linearAt-lt (l ∷ ls) x = xor-lt m (mul-lt m p F l x) (linearAt-lt ls (product p x x))
 
-  pub affineAt-lt : (c : ℕ) (ls : List ℕ) (x : ℕ) → c < 2 ^ m → affineAt p c ls x < 2 ^ m
-  unfolding affineAt
-  affineAt-lt c ls x h = xor-lt m h (linearAt-lt ls x)
-
   pub linearAt-xor : (ls : List ℕ) → Additive (linearAt p ls)
   unfolding linearAt
   linearAt-xor [] x y = sym (zero-xor 0)

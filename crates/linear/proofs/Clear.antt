@@ -3,7 +3,7 @@ use mathlib.Core.Path.{_≡_, sym, ap, _∙_}
 use mathlib.Core.Logic.{_≢_}
 use mathlib.Core.List.{List, map}
 use Prim.Native.Nat.{ℕ, _+_, _-_, _*_, _≤_, _<_, min}
-use native.Mathlib.Nat.{zero-mul, one-mul, mul-zero}
+use native.Mathlib.Nat.{zero-mul, one-mul}
 use native.Mathlib.Omega.{arith}
 use native.Mathlib.Decide.{ℕ-discrete}
 use lib.ListN.{length, getD, set, length-set, length-map, List·getD-map}

@@ -18,9 +18,6 @@ parity-step : (a : ℕ) → parity a ≡ a % 2 ⊕ parity (a / 2)
 unfolding parity parityStep
 parity-step a = fold-step parityStep (zero-xor 0) a
 
-digit-min : (x y : ℕ) → x < 2 → min x y ≡ min y x
-digit-min x y h = omega arith
-
 min-digits : (x y : ℕ) → x < 2 → y < 2 → min x y ≡ x * y
 min-digits x y h l = by-digit (λ (x : ℕ). min x y ≡ x * y) (omega arith) (omega arith) x h
 

@@ -5,7 +5,7 @@
 use mathlib.Core.Path.{_≡_, refl, sym, ap, _∙_}
 use mathlib.Core.Logic.{_≢_, inl, inr}
 use mathlib.Core.List.{List, [], _∷_}
-use Prim.Native.Nat.{ℕ, zero, suc, _+_, _*_, _/_, _%_, _^_, _≤_, _<_}
+use Prim.Native.Nat.{ℕ, zero, suc, _*_, _/_, _%_, _^_, _≤_, _<_}
 use native.Mathlib.Nat.{mod-lt, one-mul, mul-one, lt-of-not-le}
 use native.Mathlib.Omega.{arith}
 use native.Mathlib.Decide.{ℕ-discrete}
@@ -164,9 +164,3 @@ echelon-of t (d ∷ ds) a h =
       q .2,
       λ j k n. q .3 (suc j) (omega arith) (λ e. n (omega arith)),
     )
-
-pub echelon-length : {t : ℕ} {ds : List ℕ} → Echelon t ds → (m : ℕ) → t ≤ m
-    → ((i u : ℕ) → i < length ds → Degree u (getD ds i 0) → u < m) → length ds + t ≤ m
-echelon-length none m h w = omega arith
-echelon-length (next {u = u} l d c r) m h w =
-    omega (arith, l, echelon-length r m (w 0 u (omega arith) d) (λ i s k g. w (suc i) s (omega arith) g))

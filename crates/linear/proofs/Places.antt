@@ -1,11 +1,11 @@
 -- The places of a canonical base and directions: they ascend (`places-ascend`), are roots below 2 ^ m (`place-lt`, `place-root`), and are
--- every root (`places-are-roots`), so there are 2 ^ length of them (`root-count`, `few-directions`). Without a root: `no-roots`.
+-- every root (`places-are-roots`), so there are 2 ^ length of them (`root-count`). Without a root: `no-roots`.
 -- Assumes nothing.
 use mathlib.Core.Path.{_≡_, refl, sym, ap, _∙_, subst}
 use mathlib.Core.Logic.{inl, inr}
 use mathlib.Core.Bool.{Bool, true, false}
 use mathlib.Core.List.{List, [], _∷_, map}
-use Prim.Native.Nat.{ℕ, _%_, _^_, _≤_, _<_}
+use Prim.Native.Nat.{ℕ, _%_, _^_, _<_}
 use native.Mathlib.Nat.{mod-lt}
 use native.Mathlib.Omega.{arith}
 use lib.ListN.{length, length-map}
@@ -21,8 +21,8 @@ use Rattle.binary.specs.Xor.{_⊕_}
 use Rattle.binary.proofs.Xor.{xor-lt}
 use Rattle.linear.specs.Directions.{choose}
 use Rattle.linear.proofs.Choose.{choose-low}
-use Rattle.linear.proofs.Echelon.{choices-ascend, echelon-length}
-use Rattle.linear.proofs.Canonical.{Canonical, canonical-echelon, canonical-top, base-tops-clear, choice-lt}
+use Rattle.linear.proofs.Echelon.{choices-ascend}
+use Rattle.linear.proofs.Canonical.{Canonical, canonical-echelon, base-tops-clear, choice-lt}
 
 is-true : (b : Bool) → T b → b ≡ true
 is-true true h = refl
@@ -72,9 +72,6 @@ module _ {m : ℕ} {g : ℕ → Bool} {b : ℕ} {ds : List ℕ} (a : Canonical m
   root-count =
       ap length (sym places-are-roots) ∙ length-map (countUp 0 (2 ^ length ds)) (λ k. b ⊕ choose ds k)
       ∙ countUp-length 0 (2 ^ length ds)
-
-  pub few-directions : length ds ≤ m
-  few-directions = omega (arith, echelon-length (canonical-echelon a) m (omega arith) (canonical-top a))
 
 -- ---- no root
 

@@ -1,6 +1,6 @@
--- Once every column is done, `project` sends a number to the kernel along the pivot columns: it is additive, keeps the kernel as it is,
--- sends a pivot column to 0 and keeps the bits at the free columns. D3 rests on it. Assumes nothing.
-use mathlib.Core.Path.{_≡_, refl, sym, ap, _∙_, subst}
+-- Once every column is done, `project` sends a number to the kernel along the pivot columns (`project-kernel`), and what it adds (`fill`)
+-- keeps the bits at the free columns (`fill-free`) and stays below a free top (`fill-below`). D3 rests on it. Assumes nothing.
+use mathlib.Core.Path.{_≡_, sym, _∙_, subst}
 use mathlib.Core.Logic.{_≢_}
 use Prim.Native.Nat.{ℕ, zero, suc, _*_, _-_, _^_, _≤_, _<_, min}
 use native.Mathlib.Nat.{mul-zero, zero-mul, mul-one, one-mul}
@@ -10,8 +10,8 @@ use lib.ListN.{List·getD-eq-default}
 use lib.Pow.{pow-pos}
 use Rattle.binary.specs.Xor.{_⊕_, Degree}
 use Rattle.binary.specs.Bit.{bit}
-use Rattle.binary.proofs.Xor.{zero-xor, xor-zero, xor-self, xor-assoc, xor-left-comm, xor-lt}
-use Rattle.binary.proofs.Bit.{bit-zero, bit-xor, bit-pow-other, bit-digit, digit-times-lt, digit-times-xor}
+use Rattle.binary.proofs.Xor.{zero-xor, xor-zero, xor-self, xor-lt}
+use Rattle.binary.proofs.Bit.{bit-zero, bit-xor, bit-pow-other, bit-digit, digit-times-lt}
 use Rattle.linear.specs.declared.inner.elimination.Reduced.{Reduced}
 use Rattle.linear.specs.System.{dot, Kernel}
 use Rattle.linear.specs.Elimination.{row, mark}
@@ -59,34 +59,6 @@ unfolding fill
 fill-all P s w zero z x h = z
 fill-all P s w (suc n) z x h =
     x _ _ (fill-all P s w n z x (λ i l. h i (omega arith))) (h n (omega arith))
-
-term-xor : (s : Reduced) (v w i : ℕ) → term s (v ⊕ w) i ≡ term s v i ⊕ term s w i
-unfolding term
-term-xor s v w i = rw dot-xor (digit-times-xor _ _ _ (dot-lt _ _) (dot-lt _ _))
-
-cross : (a b c d : ℕ) → (a ⊕ b) ⊕ (c ⊕ d) ≡ (a ⊕ c) ⊕ (b ⊕ d)
-cross a b c d = simp (xor-assoc, xor-left-comm)
-
-fill-xor : (s : Reduced) (v w n : ℕ) → fill s (v ⊕ w) n ≡ fill s v n ⊕ fill s w n
-unfolding fill
-fill-xor s v w zero = sym (zero-xor 0)
-fill-xor s v w (suc n) = rw (fill-xor s v w n, term-xor s v w n) (cross _ _ _ _)
-
-pub project-xor : (n : ℕ) (s : Reduced) (v w : ℕ) → project n s (v ⊕ w) ≡ project n s v ⊕ project n s w
-unfolding project
-project-xor n s v w = rw (fill-xor s v w n) (cross _ _ _ _)
-
--- a term is 0 where the row sends w to 0
-term-zero : (s : Reduced) (w i : ℕ) → dot (row s i) w ≡ 0 → term s w i ≡ 0
-unfolding term
-term-zero s w i e = rw (e, zero-mul)
-
-pub project-fixed : (n : ℕ) (s : Reduced) (w : ℕ) → Kernel (s .rows) w → project n s w ≡ w
-unfolding project
-project-fixed n s w k =
-    ap (λ (x : ℕ). w ⊕ x)
-    (fill-all (λ (x : ℕ). x ≡ 0) s w n refl (λ a b p q. rw (p, q) (zero-xor 0)) (λ i l. term-zero s w i (k i)))
-    ∙ xor-zero w
 
 module _ (m n : ℕ) (s : Reduced) (c : Pivots m n m s) where
   -- a row sends a pivot column to 0, unless it is its own
@@ -139,21 +111,6 @@ module _ (m n : ℕ) (s : Reduced) (c : Pivots m n m s) where
             dot-xor (row s i) w (fill s w n) ∙ rw (dot-fill i n l (omega arith), under-yes i n l, one-mul) (xor-self _)
         pick (no l) =
             rw (List·getD-eq-default (s .rows) 0 {n = i} (omega (arith, c .rows-len))) (zero-dot _)
-
-  -- a pivot column goes to 0
-  fill-mark : (p j : ℕ) → p < n → j ≤ n → mark s p < m → fill s (2 ^ mark s p) j ≡ under p j * 2 ^ mark s p
-  unfolding fill term
-  fill-mark p zero l h q = sym (rw (under-zero p, zero-mul))
-  fill-mark p (suc j) l h q = rw (fill-mark p j l (omega arith) q) (pick (ℕ-discrete p j))
-    where
-      pick : Dec (p ≡ j) → under p j * 2 ^ mark s p ⊕ dot (row s j) (2 ^ mark s p) * 2 ^ mark s j ≡ under p (suc j) * 2 ^ mark s p
-      pick (yes e) =
-          rw (← e, under-self p, zero-mul, zero-xor, under-yes p (suc p) (omega arith), dot-own p l q)
-      pick (no d) = rw (dot-mark j p l (λ e. d (sym e)) q, zero-mul, xor-zero, under-step p j d)
-
-  pub project-pivot : (p : ℕ) → p < n → mark s p < m → project n s (2 ^ mark s p) ≡ 0
-  unfolding project
-  project-pivot p l q = rw (fill-mark p n l (omega arith) q, under-yes p n l, one-mul) (xor-self _)
 
   -- what is added stands below the top, if that is no pivot column of w
   pub fill-below : (t w : ℕ) → t ≤ m → w < 2 ^ suc t → ((i : ℕ) → i < n → mark s i ≡ t → dot (row s i) w ≡ 0) → fill s w n < 2 ^ t

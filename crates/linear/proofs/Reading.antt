@@ -1,12 +1,11 @@
 -- What is read off the rows, as the code's loops read it: a step of each sum, and the search for a row that says 0 = 1. Assumes nothing.
-use mathlib.Core.Path.{_≡_, refl, sym, ap, ap₂, _∙_}
+use mathlib.Core.Path.{_≡_, sym, ap, ap₂, _∙_}
 use mathlib.Core.Bool.{true, false}
-use Prim.Native.Nat.{ℕ, suc, _+_, _*_, _^_, _<_}
+use Prim.Native.Nat.{ℕ, _+_, _*_, _^_, _<_}
 use native.Mathlib.Numerals.{add-one}
 use lib.Bits.{bitOr, bitXor}
 use lib.ListN.{length}
 use Rattle.algebra.proofs.Search.{some-one, some-none}
-use Rattle.binary.specs.Xor.{_⊕_}
 use Rattle.binary.specs.Bit.{bit}
 use Rattle.binary.proofs.Xor.{is-xor}
 use Rattle.linear.specs.declared.inner.elimination.Reduced.{Reduced}

@@ -1,7 +1,7 @@
 -- The elimination gives what the search gives: `solved-none`, `solved-some`. Assumes nothing.
 use mathlib.Core.Path.{_≡_, refl, sym, ap, ap₂, _∙_, subst}
 use mathlib.Core.Logic.{_↔_}
-use mathlib.Core.Bool.{Bool, true, false, not, false≢true}
+use mathlib.Core.Bool.{Bool, true, false, not}
 use mathlib.Core.List.{List, []}
 use Prim.Native.Nat.{ℕ, zero, suc, _+_, _^_, _≤_, _<_}
 use native.Mathlib.Omega.{arith}
@@ -9,10 +9,8 @@ use native.Mathlib.Decide.{decLt}
 use borrow.Author.Tests.{eq-eqb}
 use lib.Dec.{T, eqb, eqb→eq}
 use lib.ListN.{length, getD, List·getD-eq-default}
-use lib.Pow.{pow-mono}
-use Rattle.algebra.specs.Search.{first, someBelow, everyBelow}
+use Rattle.algebra.specs.Search.{first, everyBelow}
 use Rattle.algebra.proofs.Search.{first-is, some-yes, some-not, some-one, some-none, some-same, first-same, every-below, every-at}
-use Rattle.binary.specs.Xor.{Degree}
 use Rattle.binary.specs.Bit.{bit}
 use Rattle.binary.proofs.Bit.{bit-zero}
 use Rattle.linear.specs.declared.inner.elimination.Reduced.{Reduced}

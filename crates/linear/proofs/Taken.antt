@@ -7,12 +7,11 @@ use Prim.Native.Nat.{ℕ, zero, suc, _^_, _<_, max}
 use native.Mathlib.Omega.{arith}
 use native.Mathlib.Decide.{ℕ-discrete}
 use borrow.Author.Tests.{eq-eqb, ne-eqb}
-use lib.Bits.{bitOr}
 use lib.Dec.{T, eqb, eqb→eq}
 use lib.ListN.{length}
 use Rattle.algebra.proofs.Search.{some-yes, some-not, some-one, some-none}
 use Rattle.binary.specs.Bit.{bit}
-use Rattle.binary.proofs.Bit.{bit-lt, bit-zero, bit-or, bit-pow, bit-pow-other}
+use Rattle.binary.proofs.Bit.{bit-zero, bit-or, bit-pow, bit-pow-other}
 use Rattle.linear.specs.declared.inner.elimination.Reduced.{Reduced}
 use Rattle.linear.specs.Elimination.{mark}
 use Rattle.linear.specs.Reading.{pivotColumns, taken}

@@ -1,5 +1,5 @@
 -- `solve` meets its contract. Assumes nothing.
-use mathlib.Core.Path.{_≡_, sym, _∙_}
+use mathlib.Core.Path.{sym, _∙_}
 use borrow.Author.Needs.{needs}
 use Rattle.field.proofs.Refusal.{refused-by, answered-by}
 use Rattle.affine.specs.Calls.{equationTests, refusedAnswer}

@@ -15,8 +15,9 @@ pub fn of_solution(s: Solution) -> AffineAnswer
 {
     let directions = s.directions;
     if s.found {
+        let k = s.count as u32;
         return AffineAnswer {
-            space: RootSpace::Found(s.count as u32),
+            space: RootSpace::Found(k),
             base: Element(s.base),
             directions,
         };

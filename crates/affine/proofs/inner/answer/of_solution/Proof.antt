@@ -1,11 +1,10 @@
 -- `of_solution` meets its contract. Assumes nothing.
-use mathlib.Core.Path.{_≡_, refl, sym, ap, _∙_}
 use borrow.Author.Needs.{needs}
 use Rattle.affine.proofs.inner.answer.of_solution.Statement.{statement}
 use Rattle.affine.proofs.inner.answer.of_solution.Tie as tie
 
-cast-t4 : tie.Need-cast-t4
-cast-t4 c = search needs
+cast-k : tie.Need-cast-k
+cast-k c = search needs
 
 returns : tie.Need-returns
 returns c = rw (c .before .if1 .taken)
@@ -14,4 +13,4 @@ returns-2 : tie.Need-returns-2
 returns-2 c = rw (c .if1 .left)
 
 pub of-solution-spec : {M : Type 1} → statement M
-of-solution-spec = tie.close (tie.spec cast-t4 returns returns-2)
+of-solution-spec = tie.close (tie.spec cast-k returns returns-2)

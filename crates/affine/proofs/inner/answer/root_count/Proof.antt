@@ -1,8 +1,5 @@
 -- `root_count` meets its contract. Assumes nothing.
-use mathlib.Core.Path.{_≡_, sym, ap, _∙_}
-use mathlib.Core.Bool.{Bool}
 use borrow.Author.Needs.{needs}
-use Rattle.affine.specs.Answers.{rootCount}
 use Rattle.affine.proofs.inner.answer.root_count.Statement.{statement}
 use Rattle.affine.proofs.inner.answer.root_count.Tie as tie
 

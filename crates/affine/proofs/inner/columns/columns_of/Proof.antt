@@ -1,8 +1,7 @@
 -- `columns_of` meets its contract. Assumes nothing.
-use Prim.Native.Nat.{ℕ, _-_}
+use Prim.Native.Nat.{_-_}
 use native.Mathlib.Omega.{arith}
 use borrow.Author.Needs.{needs}
-use lib.ListN.{length}
 use Rattle.affine.proofs.Terms.{SomeTerms, terms-start, terms-turn, terms-end, coeff-at, step-lt}
 use Rattle.affine.proofs.inner.columns.columns_of.Statement.{statement}
 use Rattle.affine.proofs.inner.columns.columns_of.Tie as tie

@@ -1,5 +1,5 @@
 -- `stepped` meets its contract: 2^i shifts are the product with x^(2^i). Assumes nothing.
-use mathlib.Core.Path.{_≡_, sym, ap, _∙_}
+use mathlib.Core.Path.{sym, ap, _∙_}
 use Prim.Native.Nat.{ℕ}
 use borrow.Author.Needs.{needs}
 use Rattle.binary.specs.Product.{product}

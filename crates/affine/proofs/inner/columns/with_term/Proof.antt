@@ -1,5 +1,5 @@
 -- `with_term` meets its contract. Assumes nothing.
-use Prim.Native.Nat.{ℕ, _-_}
+use Prim.Native.Nat.{_-_}
 use native.Mathlib.Omega.{arith}
 use borrow.Author.Needs.{needs}
 use Rattle.affine.proofs.Terms.{OneTerm, term-start, term-turn, term-end}

@@ -1,9 +1,8 @@
 -- `added` meets its contract. Assumes nothing.
-use mathlib.Core.Path.{_≡_, sym, ap, ap₂, _∙_}
-use Prim.Native.Nat.{ℕ, _*_, _<_}
+use mathlib.Core.Path.{sym, ap, _∙_}
+use Prim.Native.Nat.{ℕ, _*_}
 use lib.Bits.{bitXor}
 use borrow.Author.Needs.{needs}
-use Rattle.binary.specs.Xor.{_⊕_}
 use Rattle.binary.specs.Bit.{bit}
 use Rattle.binary.proofs.Xor.{is-xor}
 use Rattle.binary.proofs.Bit.{bit-lt}

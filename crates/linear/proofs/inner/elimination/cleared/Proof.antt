@@ -1,14 +1,10 @@
 -- `cleared` meets its contract: the loop adds the pivot row to every row that holds the column, itself too, and then it is put back.
 -- Assumes nothing.
-use mathlib.Core.Path.{_≡_, refl, sym, ap, _∙_}
-use mathlib.Core.List.{List, map}
-use Prim.Native.Nat.{ℕ, _*_, _-_, _<_}
+use Prim.Native.Nat.{_-_}
 use native.Mathlib.Omega.{arith}
-use lib.ListN.{length, getD, set, length-map, List·getD-map}
+use lib.ListN.{getD}
 use borrow.Author.Needs.{needs}
 use Rattle.algebra.proofs.Filled.{Filled, filled-none}
-use Rattle.binary.specs.Xor.{_⊕_}
-use Rattle.binary.specs.Bit.{bit}
 use Rattle.linear.specs.Limits.{places}
 use Rattle.linear.specs.Elimination.{clear}
 use Rattle.linear.proofs.Clear.{plus, clear-turn, clear-end}
