@@ -71,7 +71,8 @@ pub fn root_at_place(p: u32, coefficients: &[u32], n: u32) -> ElementAnswer
 
 // All roots, ascending, at the front of the lent list; the entries after them stay as they were.
 pub fn list_roots(p: u32, coefficients: &[u32], list: &mut [Entry]) -> CountAnswer
-    ensures { λ r. ⌜ (ofCount r ≡ listingOutcome p (now (coefficients .entry)) (length (now (list .entry)))) × (now (list .exit) ≡ listingAfter p (now (coefficients .entry)) (now (list .entry))) ⌝ }
+    ensures { λ r. ⌜ ofCount r ≡ listingOutcome p (now (coefficients .entry)) (length (now (list .entry))) ⌝ }
+    ensures { λ _. ⌜ now (list .exit) ≡ listingAfter p (now (coefficients .entry)) (now (list .entry)) ⌝ }
 {
     let refused = equation::refusal(p, coefficients);
     if refused != 0 {

@@ -40,7 +40,7 @@ returns-2 c =
     let z = c .before .before .before .if1 .left in
     let n = c .before .root-count .ensures ∙ count-is (a .p) cs _ (c .before .before .solution .ensures) (sym e ∙ z) in
     down-last _ _ 7 (leb (length (allRoots (degreeOf (a .p)) (a .p) cs)) (a .n)) (equationTests (a .p) cs) tt e z
-    (le-leb _ _ (rw n at (c .if2 .taken))) (λ w. omega arith)
+    (le-leb (length (allRoots (degreeOf (a .p)) (a .p) cs)) (a .n) (omega (arith, n, c .if2 .taken))) (λ w. omega arith)
 
 place-requires : tie.Need-place-requires
 place-requires c κs = search needs
@@ -55,7 +55,7 @@ returns-3 c =
     let q = c .before .before .before .root-count .ensures in
     let n = q ∙ count-is (a .p) cs _ s (sym e ∙ z) in
     given-last _ _ _ 7 (leb (length (allRoots (degreeOf (a .p)) (a .p) cs)) (a .n)) (equationTests (a .p) cs) tt e z
-    (lt-leb _ _ (rw n at (c .before .before .if2 .left))) (c .place .ensures ∙ place-is (a .p) cs _ s (sym e ∙ z) (a .n) (rw q at (c .before .before .if2 .left)))
+    (lt-leb (length (allRoots (degreeOf (a .p)) (a .p) cs)) (a .n) (omega (arith, n, c .before .before .if2 .left))) (c .place .ensures ∙ place-is (a .p) cs _ s (sym e ∙ z) (a .n) (omega (arith, q, c .before .before .if2 .left)))
 
 pub root-at-place-spec : {M : Type 1} → statement M
 root-at-place-spec =
