@@ -1,5 +1,5 @@
 // One call after another: drawn or damaged, searched, and compared.
-ghost use Prim.Native.Nat.{_+_, _<_, _≤_};
+ghost use Prim.Native.Nat.{_≤_};
 ghost use lib.ListN.{length};
 use crate::compare;
 use crate::draw;
@@ -35,7 +35,7 @@ fn blank() -> [u16; ENTRIES] {
     [0; ENTRIES]
 }
 
-// The same, with its lists.
+// The same, with the two lists that it needs.
 pub fn call(t: Tally, p: u32, all: &[u32; ROOM], count: usize) -> Tally
     requires { ⌜ count ≤ 20 ⌝ }
 {
@@ -55,7 +55,7 @@ fn drawn_bound(e: u32, top: u32) -> u32
     top
 }
 
-// The equation e of a field.
+// The equation e of a field: 1 to m + 1 coefficients.
 pub fn drawn(t: Tally, e: u32, p: u32) -> Tally {
     let mut u = t;
     let m = own::degree(p);
@@ -65,7 +65,7 @@ pub fn drawn(t: Tally, e: u32, p: u32) -> Tally {
     call(u, p, &coefficients, (1 + draw::below(seed, m + 1)) as usize)
 }
 
-// A call in which anything may be wrong.
+// A call in which anything may be wrong: the polynomial, the number of coefficients, which is up to m + 3, and one of them.
 pub fn damaged(t: Tally) -> Tally {
     let mut u = t;
     let seed = draw::next(t.seed);

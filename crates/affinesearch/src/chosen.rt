@@ -1,16 +1,17 @@
 // Chosen equations of the fields of degree 16, and some calls there that are to be turned down.
-ghost use Prim.Native.Nat.{_<_};
 use crate::calls;
 use crate::draw;
 use crate::draw::ROOM;
 use crate::own;
 use crate::tally::Tally;
 
-const ROWS: u32 = 16;
+const ROWS: u32 = 17;
 
-// An equation: how many coefficients; the constant, 0 for one with which ROOT is a root; l0; the place of one coefficient that is l0 again;
-// and the coefficients in all other places.
-const EQUATIONS: [[u32; 5]; 16] = [
+// An equation: how many coefficients; the constant, 0 for one with which ROOT is a root; l0; the place of one more coefficient that is l0;
+// and the coefficient in all other places. In turn: every element is a root, twice; none; one, twice; x^2 + x with two roots, and with none,
+// as the trace of 8192 is 1; two; x^16 + x, with sixteen; x^(2^15) + x, with two; the trace, with half the elements, and with none; what comes
+// of many terms; and four calls to be turned down.
+const EQUATIONS: [[u32; 5]; 17] = [
     [1, 0, 0, 0, 0],
     [17, 0, 0, 0, 0],
     [1, 40000, 0, 0, 0],
@@ -24,6 +25,7 @@ const EQUATIONS: [[u32; 5]; 16] = [
     [17, 0, 1, 0, 1],
     [17, 2, 1, 0, 1],
     [17, 0, 3333, 9, 777],
+    [0, 0, 0, 0, 0],
     [18, 65536, 1, 0, 0],
     [3, 65536, 1, 0, 1],
     [2, 0, 4294967295, 0, 0],
@@ -36,14 +38,14 @@ fn cell(k: u32, column: u32) -> u32 {
 }
 
 // The coefficient at place i of the equation k, the constant apart.
-fn coefficient(k: u32, i: u32) -> u32 {
-    if cell(k, 0) <= i {
+fn coefficient(k: u32, i: usize) -> u32 {
+    if (cell(k, 0) as usize) <= i {
         return 0;
     }
     if i == 1 {
         return cell(k, 2);
     }
-    if i == cell(k, 3) {
+    if i == cell(k, 3) as usize {
         return cell(k, 2);
     }
     cell(k, 4)
@@ -52,12 +54,13 @@ fn coefficient(k: u32, i: u32) -> u32 {
 // The coefficients of the equation k, the constant apart.
 fn terms(k: u32) -> [u32; ROOM] {
     let mut out = draw::zeros();
-    for i in 0..20 {
-        out[i as usize] = coefficient(k, i);
+    for i in 0..ROOM {
+        out[i] = coefficient(k, i);
     }
     out
 }
 
+// The constant of the equation k, whose other coefficients stand in their places.
 fn constant(k: u32, p: u32, coefficients: &[u32]) -> u32 {
     let c = cell(k, 1);
     if c != 0 {

@@ -1,13 +1,11 @@
 // The three calls of `affine` beside what the search and the program's own tests say. `number` is the number that the call is to be turned
 // down by, or 0; `roots` are the roots found, ascending, none where the call is to be turned down.
-ghost use Prim.Native.Nat.{_+_, _<_, _≤_};
+ghost use Prim.Native.Nat.{_≤_};
 ghost use lib.ListN.{length};
 use crate::search;
 use crate::search::PLACES;
-use affine::AffineAnswer;
 use affine::CountAnswer;
 use affine::RootSpace;
-use field::Element;
 use field::ElementAnswer;
 
 // What a lent list is filled with before a call.
@@ -39,13 +37,13 @@ fn refusal_agrees(n: u32, number: u32) -> bool {
     n == number
 }
 
-// The number that asks for a root or an entry past the roots, or for more entries than the list has, are turned down by: that of an earlier
-// test comes first.
-fn place_number(number: u32, asked: usize, there: usize) -> u32 {
+// The number that a call is to be turned down by which needs so many roots, or so much room in its list, and has so much: the number of an
+// earlier test comes first.
+fn place_number(number: u32, needed: usize, there: usize) -> u32 {
     if number != 0 {
         return number;
     }
-    if asked <= there {
+    if needed <= there {
         return 0;
     }
     NO_PLACE
@@ -108,8 +106,8 @@ fn place_agrees(p: u32, coefficients: &[u32], number: u32, roots: &[u16], n: u32
     }
 }
 
-// How many places were compared: those of the roots, the one after the last, and the largest number. 0 where one differs. Of many roots
-// the first 2,048 are compared, and of those above them fewer the further up they are, the last among them.
+// How many places were compared: those of the roots, the one after the last, and the largest number. 0 where one differs. From the last
+// place down: as a call takes some time, fewer places are compared the further up they are, and every place below 2,048.
 fn places_compared(p: u32, coefficients: &[u32], number: u32, roots: &[u16]) -> u32
     requires { ⌜ length (now roots) ≤ 65536 ⌝ }
 {
@@ -195,7 +193,7 @@ fn part_agrees(
     listing_agrees(p, coefficients, number, roots, &mut list[..n])
 }
 
-// The lengths of the lists: longer than needed, just long enough, an entry too short.
+// The lengths of the lists, one for each k from 0 to 2: longer than needed, just long enough, an entry too short.
 fn list_length(k: u32, count: usize) -> usize
     requires { ⌜ count ≤ 65536 ⌝ }
     ensures { λ r. ⌜ r ≤ 65544 ⌝ }
@@ -212,6 +210,7 @@ fn list_length(k: u32, count: usize) -> usize
     count - 1
 }
 
+// Listings into lists of each length.
 fn listings_agree(
     p: u32,
     coefficients: &[u32],

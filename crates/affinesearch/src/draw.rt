@@ -1,13 +1,14 @@
 // The generator, and what is drawn by it: coefficients, and polynomials of every kind.
-ghost use Prim.Native.Nat.{_+_, _<_, _≤_};
+ghost use Prim.Native.Nat.{_<_, _≤_};
 
 // Room for a call's coefficients: three more than m + 1 at most.
 pub const ROOM: usize = 20;
 
-// Two field polynomials for each degree from 2 to 8, and two of degree 16: the house one and another. Degree 2 has one only, which stands
-// twice. The powers of x do not reach every element for 31, 73, 283 and 65579.
+// How many degrees the table has.
 pub const ROWS: u32 = 8;
 
+// Two field polynomials for each degree from 2 to 8, and two of degree 16: the house one and another. Degree 2 has one only, which stands
+// twice. The powers of x do not reach every element for 31, 73, 283 and 65579.
 const ACCEPTED: [u32; 16] = [
     7,
     7,
@@ -76,8 +77,8 @@ pub fn coefficients(seed: u64, bound: u32, list: &mut [u32; ROOM]) -> u64
     s
 }
 
-// A polynomial of one of eight kinds, by the highest three bits: below 4; from 131072 up; any between, most of which have a factor; accepted, of
-// degree up to 8.
+// A polynomial of one of eight kinds, by the highest three bits: below 4; from 131072 up; any between, most of which have a factor; an
+// accepted one of degree 2 to 8.
 pub fn polynomial(seed: u64) -> u32 {
     let kind = high(seed) / 8192;
     let some = high(seed) % 8192;

@@ -23,7 +23,7 @@ fn equation(t: Tally, m: u32, e: u32, p: u32) -> Tally {
     calls::drawn(t, e, p)
 }
 
-// The equations of a degree, for its two polynomials in turn.
+// The equations of a degree, for its two polynomials in turn. Where there are fewer, the last turns do nothing.
 fn field(t: Tally, row: u32, m: u32) -> Tally {
     let mut u = t;
     for e in 0..DRAWN {
@@ -64,7 +64,7 @@ fn main() {
     let u = damaged(t);
     io::write_all(STDOUT_FILENO, b"damaged calls: ");
     tally::print_since(t, u);
+    tally::print_refused(u);
     io::write_all(STDOUT_FILENO, b"all: ");
     tally::print_since(start, u);
-    tally::print_refused(u);
 }

@@ -50,7 +50,7 @@ pub fn print_count(n: u64, name: &[u8]) {
     io::write_all(STDOUT_FILENO, name);
 }
 
-// What was counted after `before`, the calls turned down apart.
+// What was counted after `before`, the calls turned down apart, up to the line end.
 pub fn print_since(before: Tally, t: Tally) {
     let equations = wrapping_sub_u32(t.by[0], before.by[0]);
     print_count(equations as u64, b" equations, ");
@@ -60,15 +60,15 @@ pub fn print_since(before: Tally, t: Tally) {
     print_count(minus(t.differences, before.differences), b" differences\n");
 }
 
+fn print_number(n: u32) {
+    io::write_all(STDOUT_FILENO, b" ");
+    io::print_decimal(STDOUT_FILENO, n as u64);
+}
+
 fn print_numbers(numbers: &[u32]) {
     for i in 0..numbers.len() {
         print_number(numbers[i]);
     }
-}
-
-fn print_number(n: u32) {
-    io::write_all(STDOUT_FILENO, b" ");
-    io::print_decimal(STDOUT_FILENO, n as u64);
 }
 
 fn print_by(n: u32, name: &[u8]) {

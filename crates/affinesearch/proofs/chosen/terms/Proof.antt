@@ -19,9 +19,6 @@ loop-holds c = search needs
 coefficient-requires : tie.Need-coefficient-requires Inv-loop μ-loop
 coefficient-requires c κs = search needs
 
-cast-out : tie.Need-cast-out Inv-loop μ-loop
-cast-out c = search needs
-
 mul-out : tie.Need-mul-out Inv-loop μ-loop
 mul-out c = search needs
 
@@ -49,7 +46,6 @@ terms-spec =
     zeros-requires
     loop-holds
     coefficient-requires
-    cast-out
     mul-out
     array-write-out
     add-i
