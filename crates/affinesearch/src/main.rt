@@ -3,6 +3,8 @@ mod calls;
 mod chosen;
 mod compare;
 mod draw;
+mod expected;
+mod listings;
 mod own;
 mod search;
 mod tally;

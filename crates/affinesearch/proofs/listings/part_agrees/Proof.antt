@@ -2,8 +2,8 @@
 use mathlib.Core.Path.{sym}
 use lib.Seq.{length-take-le}
 use borrow.Author.Needs.{needs}
-use Rattle.affinesearch.proofs.compare.part_agrees.Statement.{statement}
-use Rattle.affinesearch.proofs.compare.part_agrees.Tie as tie
+use Rattle.affinesearch.proofs.listings.part_agrees.Statement.{statement}
+use Rattle.affinesearch.proofs.listings.part_agrees.Tie as tie
 
 slice-relend-prefix-listing-agrees : tie.Need-slice-relend-prefix-listing-agrees
 slice-relend-prefix-listing-agrees c = search needs

@@ -2,8 +2,8 @@
 use Prim.Native.Nat.{_≤_, _-_}
 use lib.ListN.{length}
 use borrow.Author.Needs.{needs}
-use Rattle.affinesearch.proofs.compare.holds.Statement.{statement}
-use Rattle.affinesearch.proofs.compare.holds.Tie as tie
+use Rattle.affinesearch.proofs.listings.holds.Statement.{statement}
+use Rattle.affinesearch.proofs.listings.holds.Tie as tie
 
 abbrev Inv-loop : tie.InvT-loop
 Inv-loop list roots i₀ i-end i = i ≤ length list

@@ -3,8 +3,8 @@ use Prim.Native.Nat.{_≤_, _-_}
 use mathlib.Core.Path.{_≡_}
 use lib.ListN.{length}
 use borrow.Author.Needs.{needs}
-use Rattle.affinesearch.proofs.compare.listings_agree.Statement.{statement}
-use Rattle.affinesearch.proofs.compare.listings_agree.Tie as tie
+use Rattle.affinesearch.proofs.listings.listings_agree.Statement.{statement}
+use Rattle.affinesearch.proofs.listings.listings_agree.Tie as tie
 
 abbrev Inv-loop : tie.InvT-loop
 Inv-loop p coefficients number roots list₀ k₀ list k = (k ≤ 3) × (length list ≡ length list₀)

@@ -3,8 +3,8 @@ use Prim.Native.Nat.{_≤_, _-_}
 use mathlib.Core.Path.{_≡_}
 use lib.ListN.{length}
 use borrow.Author.Needs.{needs}
-use Rattle.affinesearch.proofs.compare.fill.Statement.{statement}
-use Rattle.affinesearch.proofs.compare.fill.Tie as tie
+use Rattle.affinesearch.proofs.listings.fill.Statement.{statement}
+use Rattle.affinesearch.proofs.listings.fill.Tie as tie
 
 abbrev Inv-loop : tie.InvT-loop
 Inv-loop list₀ i₀ i-end list i = (i ≤ length list₀) × (length list ≡ length list₀)
