@@ -13,6 +13,7 @@ use Rattle.algebra.proofs.Search.{same-test}
 use Rattle.binary.proofs.Xor.{xor-self, equal-of-xor}
 use Rattle.galois.specs.Field.{Field}
 use Rattle.galois.specs.Polynomial.{Coeffs}
+use Rattle.galois.proofs.Polynomial.{coeff-at}
 use Rattle.galois.specs.Affine.{linearAt, affineAt}
 use Rattle.galois.proofs.Affine.{linearAt-lt, linearAt-xor}
 use Rattle.linear.specs.Limits.{places}
@@ -23,7 +24,6 @@ use Rattle.linear.proofs.Solved.{kernel-test, solves-test, solution-same}
 use Rattle.linear.proofs.Matrix.{rowsOf-same, kernel-of-rows, solves-of-rows}
 use Rattle.affine.specs.Columns.{IsColumns}
 use Rattle.affine.specs.Equation.{isRoot, isDirection}
-use Rattle.affine.proofs.Terms.{coeff-at}
 
 -- what the two tests say
 pub root-test : (p : ℕ) (cs : List ℕ) (x : ℕ) → (isRoot p cs x ≡ true) ↔ (affineAt p (getD cs 0 0) (drop 1 cs) x ≡ 0)

@@ -2,35 +2,25 @@
 -- from one to the next (`term-next`), and one term more (`linear-more`). Assumes nothing.
 use mathlib.Core.Path.{_≡_, refl, sym, ap, ap₂, _∙_}
 use mathlib.Core.List.{List, [], _∷_}
-use Prim.Native.Nat.{ℕ, zero, suc, _+_, _*_, _^_, _≤_, _<_}
+use Prim.Native.Nat.{ℕ, zero, suc, _+_, _^_, _≤_, _<_}
 use native.Mathlib.Numerals.{add-one}
 use native.Mathlib.Omega.{arith}
 use lib.Bits.{bitXor}
 use lib.ListN.{length, getD, take, set, replicate, getD-replicate}
-use lib.Pow.{pow-pos, pow-mono, pow-lt}
+use lib.Pow.{pow-mono}
 use lib.Seq.{take-all}
 use Rattle.algebra.proofs.Filled.{Filled, filled-none, filled-put}
 use Rattle.binary.specs.Xor.{_⊕_}
 use Rattle.binary.specs.Product.{product, timesX, Modulus}
 use Rattle.binary.proofs.Xor.{is-xor, xor-assoc, xor-comm}
-use Rattle.binary.proofs.Remainder.{remainder-small}
 use Rattle.binary.proofs.Product.{product-one, product-comm, product-assoc}
 use Rattle.binary.proofs.Modulus.{product-two}
 use Rattle.galois.specs.Field.{Field}
 use Rattle.galois.specs.Power.{power, squares}
-use Rattle.galois.specs.Polynomial.{Coeffs}
 use Rattle.galois.specs.Affine.{linearAt}
-use Rattle.galois.proofs.Power.{mul-left, mul-lt, squares-shift, squares-product, squares-one, squares-lt, squares-is}
+use Rattle.galois.proofs.Power.{x-power, squares-power, mul-left, mul-lt, squares-shift, squares-lt, squares-is}
 use Rattle.linear.specs.Limits.{places}
 use Rattle.affine.specs.Columns.{IsColumns, PlusTerm}
-
--- x^j is the number 2^j
-pub x-power : (m p : ℕ) → Modulus m p → (j : ℕ) → j < m → power p 2 j ≡ 2 ^ j
-unfolding power timesX
-x-power m p M zero h = refl
-x-power m p M (suc j) h =
-    ap (product p 2) (x-power m p M j (omega arith)) ∙ product-two p (2 ^ j)
-    ∙ remainder-small m p (M .degree) (2 ^ j * 2) (let w = pow-lt h in omega arith) ∙ omega arith
 
 module _ (m p : ℕ) (F : Field m p) where
   -- one shift more
@@ -39,14 +29,9 @@ module _ (m p : ℕ) (F : Field m p) where
   shift-more t n x e =
       sym (product-two p x) ∙ ap (product p 2) e ∙ mul-left m p F 2 t (power p 2 n) ∙ ap (λ (k : ℕ). product p t (power p 2 k)) (sym (add-one n))
 
-  squares-power : (i a n : ℕ) → squares p i (power p a n) ≡ power p (squares p i a) n
-  unfolding power
-  squares-power i a zero = squares-one m p F i
-  squares-power i a (suc n) = squares-product m p F i a (power p a n) ∙ ap (product p (squares p i a)) (squares-power i a n)
-
   -- a term at x^j, the number 2^j
   pub term-at : Modulus m p → (l i j : ℕ) → j < m → product p l (power p (squares p i 2) j) ≡ product p l (squares p i (2 ^ j))
-  term-at M l i j h = ap (product p l) (sym (squares-power i 2 j) ∙ ap (squares p i) (x-power m p M j h))
+  term-at M l i j h = ap (product p l) (sym (squares-power m p F i 2 j) ∙ ap (squares p i) (x-power m p M j h))
 
   two-lt : Modulus m p → 2 < 2 ^ m
   two-lt M = let w = pow-mono (M .two) in omega arith
@@ -143,8 +128,3 @@ terms-turn m p F ls columns next step i r h long t e w =
 
 pub terms-end : (m p : ℕ) (ls columns : List ℕ) (step i : ℕ) → length ls ≤ i → SomeTerms m p ls columns step i → IsColumns m p ls columns
 terms-end m p ls columns step i h w = rw (take-all i ls h) at (w .so-far)
-
-pub coeff-at : (m : ℕ) (f : List ℕ) (i : ℕ) → Coeffs m f → getD f i 0 < 2 ^ m
-coeff-at m [] i h = pow-pos m
-coeff-at m (c ∷ f) zero h = h .0
-coeff-at m (c ∷ f) (suc i) h = coeff-at m f i (h .1)

@@ -3,7 +3,7 @@
 use mathlib.Core.Path.{_≡_, refl, sym, ap, _∙_, subst}
 use mathlib.Core.Bool.{true, false, false≢true, or-true}
 use mathlib.Core.List.{List, [], _∷_, _++_}
-use Prim.Native.Nat.{ℕ, suc, _+_, _-_, _^_, _≤_, _<_}
+use Prim.Native.Nat.{ℕ, _+_, _-_, _≤_, _<_}
 use native.Mathlib.Decide.{ℕ-discrete, decLt}
 use native.Mathlib.Omega.{arith}
 use borrow.Author.Tests.{eq-eqb, lt-ltb}
@@ -13,6 +13,7 @@ use lib.Seq.{take-all}
 use Rattle.algebra.proofs.Search.{some-not}
 use Rattle.binary.specs.Factor.{degreeOf}
 use Rattle.galois.specs.Polynomial.{Coeffs}
+use Rattle.galois.proofs.Polynomial.{coeffs-of}
 use Rattle.field.specs.Accepted.{Accepted}
 use Rattle.field.specs.Refusal.{Test, _⇒_, refusal, tooLarge, anyTooLarge, polynomialTests}
 use Rattle.field.proofs.Refusal.{then-kept, then-applies, then-passes, passes, accepted, element-small}
@@ -56,13 +57,9 @@ count-few p n e = go (decLt (degreeOf p + 1) n)
     go (yes q) = absurd (false≢true (sym e ∙ rw (lt-ltb (degreeOf p + 1) n q) (or-true (eqb n 0))))
     go (no q) = omega arith
 
-all-small : (m : ℕ) (cs : List ℕ) → ((i : ℕ) → i < length cs → getD cs i 0 < 2 ^ m) → Coeffs m cs
-all-small m [] h = tt
-all-small m (c ∷ cs) h = (h 0 (omega arith), all-small m cs (λ i l. h (suc i) (omega arith)))
-
 coefficients-small : (p : ℕ) (cs : List ℕ) → anyTooLarge p cs ≡ false → Coeffs (degreeOf p) cs
 unfolding anyTooLarge
-coefficients-small p cs e = all-small (degreeOf p) cs (λ i l. element-small p (getD cs i 0) (some-not (λ i. tooLarge p (getD cs i 0)) (length cs) e i l))
+coefficients-small p cs e = coeffs-of (degreeOf p) cs (λ i l. element-small p (getD cs i 0) (some-not (λ i. tooLarge p (getD cs i 0)) (length cs) e i l))
 
 -- what has passed
 pub equation-accepted : (p : ℕ) (cs : List ℕ) → refusal (equationTests p cs) ≡ 0 → Accepted p

@@ -5,10 +5,9 @@ use mathlib.Core.Bool.{Bool, true, false, not, _&&_, and-false, false≢true}
 use mathlib.Core.Logic.{_⊎_, inl, inr, _↔_}
 use Prim.Native.Nat.{ℕ, zero, suc, _+_, _≤_, _<_}
 use native.Mathlib.Nat.{eq-or-lt-of-le}
-use native.Mathlib.Decide.{ℕ-discrete}
+use native.Mathlib.Decide.{ℕ-discrete, decLt}
 use native.Mathlib.Omega.{arith}
 use lib.Dec.{T, ltb, ltb→lt, nltb→le}
-use borrow.Author.Count.{below-more}
 use Rattle.algebra.specs.Search.{firstFrom, first, someBelow, everyBelow}
 
 module _ (f : ℕ → Bool) where
@@ -96,15 +95,11 @@ module _ (f : ℕ → Bool) where
 
   -- what there is to find: the first that passes, or that none does
   pub found : (n : ℕ) → ((k : ℕ) × (k < n) × (f k ≡ true) × ((j : ℕ) → j < k → f j ≡ false)) ⊎ ((j : ℕ) → j < n → f j ≡ false)
-  found zero = inr (λ j l. absurd (omega arith))
-  found (suc n) = go (found n) (f n) refl
+  found n = go (decLt (first f n) n)
     where
-      go : ((k : ℕ) × (k < n) × (f k ≡ true) × ((j : ℕ) → j < k → f j ≡ false)) ⊎ ((j : ℕ) → j < n → f j ≡ false)
-          → (b : Bool) → f n ≡ b
-          → ((k : ℕ) × (k < suc n) × (f k ≡ true) × ((j : ℕ) → j < k → f j ≡ false)) ⊎ ((j : ℕ) → j < suc n → f j ≡ false)
-      go (inl r) b e = let l = r .1 in inl (r .0, omega arith, r .2, r .3)
-      go (inr h) true e = inl (n, omega arith, e, h)
-      go (inr h) false e = inr (λ j l. below-more (λ j. f j ≡ false) n h e j (omega arith))
+      go : Dec (first f n < n) → ((k : ℕ) × (k < n) × (f k ≡ true) × ((j : ℕ) → j < k → f j ≡ false)) ⊎ ((j : ℕ) → j < n → f j ≡ false)
+      go (yes l) = inl (first f n, l, first-below n .holds (omega arith), λ j h. first-below n .before j (omega arith) h)
+      go (no h) = inr (λ j l. first-below n .before j (omega arith) (omega arith))
 
   -- every one passes
   pub every-below : (n : ℕ) → ((j : ℕ) → j < n → f j ≡ true) → everyBelow f n ≡ true

@@ -1,8 +1,10 @@
--- C4: the value of a coefficient list stays in the field, and of a list joined to another. Assumes nothing.
+-- C4: the value of a coefficient list stays in the field, and of a list joined to another; coefficients place by place (`coeff-at`,
+-- `coeffs-of`). Assumes nothing.
 use mathlib.Core.Path.{_≡_, refl, sym, ap, ap₂, _∙_}
 use mathlib.Core.List.{List, [], _∷_, _++_}
-use Prim.Native.Nat.{ℕ, _^_, _<_}
-use lib.ListN.{length}
+use Prim.Native.Nat.{ℕ, zero, suc, _^_, _<_}
+use native.Mathlib.Omega.{arith}
+use lib.ListN.{length, getD}
 use lib.Pow.{pow-pos}
 use Rattle.binary.specs.Xor.{_⊕_}
 use Rattle.binary.proofs.Xor.{zero-xor, xor-assoc, xor-lt}
@@ -12,6 +14,16 @@ use Rattle.galois.specs.Field.{Field}
 use Rattle.galois.specs.Power.{power}
 use Rattle.galois.proofs.Power.{mul-lt}
 use Rattle.galois.specs.Polynomial.{value, Coeffs, AllZero}
+
+-- every coefficient is an element, place by place
+pub coeff-at : (m : ℕ) (f : List ℕ) (i : ℕ) → Coeffs m f → getD f i 0 < 2 ^ m
+coeff-at m [] i h = pow-pos m
+coeff-at m (c ∷ f) zero h = h .0
+coeff-at m (c ∷ f) (suc i) h = coeff-at m f i (h .1)
+
+pub coeffs-of : (m : ℕ) (f : List ℕ) → ((i : ℕ) → i < length f → getD f i 0 < 2 ^ m) → Coeffs m f
+coeffs-of m [] h = tt
+coeffs-of m (c ∷ f) h = (h 0 (omega arith), coeffs-of m f (λ i l. h (suc i) (omega arith)))
 
 pub zero-value : (p : ℕ) (f : List ℕ) (x : ℕ) → AllZero f → value p f x ≡ 0
 unfolding value

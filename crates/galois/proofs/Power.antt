@@ -1,11 +1,14 @@
--- The power laws, and squaring: additive, multiplicative, injective; k squarings are the power 2 ^ k. Assumes nothing.
+-- The power laws, and squaring: additive, multiplicative, injective; k squarings are the power 2 ^ k; x^j is the number 2 ^ j. Assumes nothing.
 use mathlib.Core.Path.{_≡_, refl, sym, ap, ap₂, _∙_}
 use Prim.Native.Nat.{ℕ, zero, suc, _+_, _*_, _^_, _<_}
 use native.Mathlib.Nat.{zero-add, suc-add, mul-suc, mul-zero, pow-suc}
 use native.Mathlib.Omega.{arith}
 use Rattle.binary.specs.Xor.{_⊕_}
 use Rattle.binary.proofs.Xor.{equal-of-xor, xor-self, xor-lt, ac}
-use Rattle.binary.specs.Product.{product}
+use lib.Pow.{pow-lt}
+use Rattle.binary.specs.Product.{product, timesX, Modulus}
+use Rattle.binary.proofs.Remainder.{remainder-small}
+use Rattle.binary.proofs.Modulus.{product-two}
 use Rattle.binary.proofs.Product.{product-comm, product-zero, product-lt, product-one, one-product, product-xor, xor-product, product-assoc}
 use Rattle.binary.proofs.Inverse.{no-zero-divisors}
 use Rattle.galois.specs.Field.{Field}
@@ -24,6 +27,14 @@ pub squares-zero : (p k : ℕ) → squares p k 0 ≡ 0
 unfolding squares
 squares-zero p zero = refl
 squares-zero p (suc k) = ap (λ (x : ℕ). product p x x) (squares-zero p k) ∙ product-zero p 0
+
+-- x^j is the number 2^j
+pub x-power : (m p : ℕ) → Modulus m p → (j : ℕ) → j < m → power p 2 j ≡ 2 ^ j
+unfolding power timesX
+x-power m p M zero h = refl
+x-power m p M (suc j) h =
+    ap (product p 2) (x-power m p M j (omega arith)) ∙ product-two p (2 ^ j)
+    ∙ remainder-small m p (M .degree) (2 ^ j * 2) (let w = pow-lt h in omega arith) ∙ omega arith
 
 module _ (m p : ℕ) (F : Field m p) where
   pub mul-lt : (a b : ℕ) → product p a b < 2 ^ m
@@ -112,6 +123,11 @@ module _ (m p : ℕ) (F : Field m p) where
   unfolding squares
   squares-one zero = refl
   squares-one (suc k) = ap (λ (x : ℕ). product p x x) (squares-one k) ∙ product-one m p (F .irr .degree) 1 (one-lt m p F)
+
+  pub squares-power : (i a n : ℕ) → squares p i (power p a n) ≡ power p (squares p i a) n
+  unfolding power
+  squares-power i a zero = squares-one i
+  squares-power i a (suc n) = squares-product i a (power p a n) ∙ ap (product p (squares p i a)) (squares-power i a n)
 
   pub power-square : (k a : ℕ) → power p a (2 ^ suc k) ≡ product p (power p a (2 ^ k)) (power p a (2 ^ k))
   power-square k a = ap (power p a) (pow-suc 2 k) ∙ power-mul a (2 ^ k) 2 ∙ power-two (power p a (2 ^ k)) (power-lt a (2 ^ k))

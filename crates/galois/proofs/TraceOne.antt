@@ -2,11 +2,13 @@
 -- most 2 ^ (m - 1) roots. Assumes nothing.
 use mathlib.Core.Path.{_≡_, refl, sym, ap, ap₂, _∙_, subst}
 use mathlib.Core.Logic.{_⊎_, inl, inr}
+use mathlib.Core.Bool.{true, false}
 use mathlib.Core.List.{List, [], _∷_, _++_}
 use Prim.Native.Nat.{ℕ, zero, suc, _^_, _≤_, _<_}
-use native.Mathlib.Decide.{ℕ-discrete}
 use native.Mathlib.Numerals.{add-one}
 use native.Mathlib.Omega.{arith}
+use lib.Dec.{eqb}
+use borrow.Author.Tests.{eqb-true, eqb-false}
 use lib.ListN.{replicate, length-replicate, replicate-append-replicate}
 use lib.Pow.{pow-pos}
 use Rattle.binary.specs.Xor.{_⊕_}
@@ -14,6 +16,7 @@ use Rattle.binary.proofs.Xor.{zero-xor}
 use Rattle.binary.specs.Product.{product}
 use Rattle.binary.proofs.Product.{one-product}
 use Rattle.algebra.specs.Lists.{below}
+use Rattle.algebra.proofs.Search.{found}
 use Rattle.algebra.proofs.Onto.{below-length, below-nodup, of-below}
 use Rattle.galois.specs.Field.{Field}
 use Rattle.galois.proofs.Field.{one-lt}
@@ -23,23 +26,6 @@ use Rattle.galois.proofs.Trace.{partTrace-front, trace-bit}
 use Rattle.galois.specs.Polynomial.{Coeffs}
 use Rattle.galois.specs.Affine.{linearAt, affineAt}
 use Rattle.galois.proofs.AffineList.{affine-few}
-
--- the first number below n that passes, or none does
-pub look : (P : ℕ → Type 0) → ((x : ℕ) → Dec (P x)) → (n : ℕ) → ((x : ℕ) × (x < n) × P x) ⊎ ((x : ℕ) → x < n → P x → ⊥)
-look P d zero = inr (λ x h q. omega arith)
-look P d (suc n) = go (look P d n) (d n)
-  where
-    last : ((x : ℕ) → x < n → P x → ⊥) → (P n → ⊥) → (x : ℕ) → x < suc n → P x → ⊥
-    last f g x h q = pick (ℕ-discrete x n)
-      where
-        pick : Dec (x ≡ n) → ⊥
-        pick (yes e) = g (subst P e q)
-        pick (no k) = f x (omega arith) q
-
-    go : ((x : ℕ) × (x < n) × P x) ⊎ ((x : ℕ) → x < n → P x → ⊥) → Dec (P n) → ((x : ℕ) × (x < suc n) × P x) ⊎ ((x : ℕ) → x < suc n → P x → ⊥)
-    go (inl r) q = let l = r .1 in inl (r .0, omega arith, r .2)
-    go (inr f) (yes q) = inl (n, omega arith, q)
-    go (inr f) (no g) = inr (last f g)
 
 ones-end : (k : ℕ) → replicate {A = ℕ} k 1 ++ 1 ∷ [] ≡ replicate (suc k) 1
 ones-end k = replicate-append-replicate k 1 1 ∙ ap (λ (j : ℕ). replicate j 1) (add-one k)
@@ -73,17 +59,18 @@ module _ (m p : ℕ) (F : Field m p) where
       omega arith
 
   pub trace-one : (θ : ℕ) × (θ < 2 ^ m) × (trace m p θ ≡ 1)
-  trace-one = go (look (λ x. trace m p x ≡ 1) (λ x. ℕ-discrete (trace m p x) 1) (2 ^ m))
+  trace-one = go (found (λ x. eqb (trace m p x) 1) (2 ^ m))
     where
-      zero-if : ((x : ℕ) → x < 2 ^ m → trace m p x ≡ 1 → ⊥) → (x : ℕ) → x < 2 ^ m → trace m p x ≡ 0
+      zero-if : ((x : ℕ) → x < 2 ^ m → eqb (trace m p x) 1 ≡ false) → (x : ℕ) → x < 2 ^ m → trace m p x ≡ 0
       zero-if f x h = pick (trace-bit m p F x h)
         where
           pick : (trace m p x ≡ 0) ⊎ (trace m p x ≡ 1) → trace m p x ≡ 0
           pick (inl e) = e
-          pick (inr e) = absurd (f x h e)
+          pick (inr e) = absurd (eqb-false (trace m p x) 1 (f x h) e)
 
-      go : ((x : ℕ) × (x < 2 ^ m) × (trace m p x ≡ 1)) ⊎ ((x : ℕ) → x < 2 ^ m → trace m p x ≡ 1 → ⊥) → (θ : ℕ) × (θ < 2 ^ m) × (trace m p θ ≡ 1)
-      go (inl r) = r
+      go : ((k : ℕ) × (k < 2 ^ m) × (eqb (trace m p k) 1 ≡ true) × ((j : ℕ) → j < k → eqb (trace m p j) 1 ≡ false)) ⊎ ((j : ℕ) → j < 2 ^ m → eqb (trace m p j) 1 ≡ false)
+          → (θ : ℕ) × (θ < 2 ^ m) × (trace m p θ ≡ 1)
+      go (inl r) = (r .0, r .1, eqb-true (trace m p (r .0)) 1 (r .2))
       go (inr f) = absurd (at m refl (F .pos))
         where
           at : (k : ℕ) → k ≡ m → 1 ≤ k → ⊥

@@ -2,7 +2,8 @@
 use Prim.Native.Nat.{_-_}
 use native.Mathlib.Omega.{arith}
 use borrow.Author.Needs.{needs}
-use Rattle.affine.proofs.Terms.{SomeTerms, terms-start, terms-turn, terms-end, coeff-at, step-lt}
+use Rattle.galois.proofs.Polynomial.{coeff-at}
+use Rattle.affine.proofs.Terms.{SomeTerms, terms-start, terms-turn, terms-end, step-lt}
 use Rattle.affine.proofs.inner.columns.columns_of.Statement.{statement}
 use Rattle.affine.proofs.inner.columns.columns_of.Tie as tie
 
