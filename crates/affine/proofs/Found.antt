@@ -26,11 +26,9 @@ use Rattle.linear.proofs.Choose.{choose-zeros}
 use Rattle.linear.proofs.Listed.{degree-lt, directions-length}
 use Rattle.linear.proofs.Canonical.{Coset, Canonical, is-canonical}
 use Rattle.linear.proofs.Places.{places-are-roots, root-count, no-roots}
-use Rattle.affine.specs.Equation.{isRoot, isDirection, allRoots, baseOf, directionsOf, rootAt, solutionOf}
-use Rattle.field.specs.Refusal.{refusal}
-use Rattle.affine.specs.Calls.{equationTests, solution}
+use Rattle.affine.specs.Equation.{isRoot, isDirection, allRoots, baseOf, directionsOf, rootAt, solutionOf, Ready}
+use Rattle.affine.specs.Calls.{solution}
 use Rattle.affine.specs.Answers.{answerOf, rootCount}
-use Rattle.affine.proofs.Tests.{equation-ready}
 use Rattle.affine.proofs.Matrix.{root-test, direction-test}
 
 -- the roots are one of them moved by each direction
@@ -78,15 +76,14 @@ module _ (p : ℕ) (cs : List ℕ) (r : Solution) (e : r ≡ solutionOf p cs) wh
   pub answer-is : answerOf r ≡ solution found base ds
   answer-is = ap answerOf is ∙ answer-if found base ds
 
-  pub count-fits : refusal (equationTests p cs) ≡ 0 → r .count ≤ places
+  pub count-fits : Ready (degreeOf p) p cs → r .count ≤ places
   unfolding directionsOf
-  count-fits z =
-      let R = equation-ready p cs z in
+  count-fits R =
       rw is (omega (arith, count-if found base ds, directions-length (isDirection p cs) m, R .largest))
 
-  module _ (z : refusal (equationTests p cs) ≡ 0) where
+  module _ (R : Ready (degreeOf p) p cs) where
     F : Field m p
-    F = equation-ready p cs z .field .field
+    F = R .field .field
 
     -- base and directions have document 01's properties
     pub canonical : found ≡ true → Canonical m (isRoot p cs) base ds
@@ -141,7 +138,6 @@ module _ (p : ℕ) (cs : List ℕ) (r : Solution) (e : r ≡ solutionOf p cs) wh
       pub listing-ready : (r .base < 2 ^ width) × ((i : ℕ) → i < r .count → getD (r .directions) i 0 < 2 ^ width)
       unfolding solutionIf placed
       listing-ready =
-          let R = equation-ready p cs z in
           let h : m ≤ width = omega (arith, R .largest) in
           let w = pow-mono h in
           let C = canonical has-root in (

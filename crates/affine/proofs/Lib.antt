@@ -7,4 +7,3 @@ pub mod Theorems
 pub mod Bounds
 pub mod Squares
 pub mod Unique
-pub mod Rows

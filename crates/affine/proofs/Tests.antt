@@ -1,22 +1,21 @@
 -- The tests of an equation: what each says after those before it (`count-applies`, `size-applies`, `all-pass`), and what has passed them
 -- (`equation-ready`). Assumes nothing.
-use mathlib.Core.Path.{_≡_, refl, sym, ap, _∙_, subst}
+use mathlib.Core.Path.{_≡_, refl, sym, _∙_, subst}
 use mathlib.Core.Bool.{true, false, false≢true, or-true}
 use mathlib.Core.List.{List, [], _∷_, _++_}
 use Prim.Native.Nat.{ℕ, _+_, _-_, _≤_, _<_}
 use native.Mathlib.Decide.{ℕ-discrete, decLt}
 use native.Mathlib.Omega.{arith}
 use borrow.Author.Tests.{eq-eqb, lt-ltb}
-use lib.Dec.{eqb, ltb}
-use lib.ListN.{length, getD, take, drop, length-drop}
+use lib.Dec.{eqb}
+use lib.ListN.{length, take, drop, length-drop}
 use lib.Seq.{take-all}
-use Rattle.algebra.proofs.Search.{some-not}
 use Rattle.binary.specs.Factor.{degreeOf}
 use Rattle.galois.specs.Polynomial.{Coeffs}
-use Rattle.galois.proofs.Polynomial.{coeffs-of}
 use Rattle.field.specs.Accepted.{Accepted}
-use Rattle.field.specs.Refusal.{Test, _⇒_, refusal, tooLarge, anyTooLarge, polynomialTests}
-use Rattle.field.proofs.Refusal.{then-kept, then-applies, then-passes, passes, accepted, element-small}
+use Rattle.field.specs.Refusal.{Test, _⇒_, refusal, anyTooLarge, polynomialTests}
+use Rattle.field.proofs.Refusal.{then-kept, then-applies, then-passes, passes, accepted}
+use Rattle.field.proofs.Coefficients.{coefficients-small}
 use Rattle.affine.specs.Equation.{Ready}
 use Rattle.affine.specs.Calls.{wrongCount, equationTests}
 
@@ -57,12 +56,8 @@ count-few p n e = go (decLt (degreeOf p + 1) n)
     go (yes q) = absurd (false≢true (sym e ∙ rw (lt-ltb (degreeOf p + 1) n q) (or-true (eqb n 0))))
     go (no q) = omega arith
 
-coefficients-small : (p : ℕ) (cs : List ℕ) → anyTooLarge p cs ≡ false → Coeffs (degreeOf p) cs
-unfolding anyTooLarge
-coefficients-small p cs e = coeffs-of (degreeOf p) cs (λ i l. element-small p (getD cs i 0) (some-not (λ i. tooLarge p (getD cs i 0)) (length cs) e i l))
-
 -- what has passed
-pub equation-accepted : (p : ℕ) (cs : List ℕ) → refusal (equationTests p cs) ≡ 0 → Accepted p
+equation-accepted : (p : ℕ) (cs : List ℕ) → refusal (equationTests p cs) ≡ 0 → Accepted p
 equation-accepted p cs e =
     let t = passes (equationTests p cs) tt e in
     accepted p (rw (t .0, t .1 .0) refl)
@@ -79,8 +74,11 @@ equation-ready p cs e =
       small = coefficients-small p cs (t .1 .1 .1 .0);
     }
 
-pub ready-at : (m p : ℕ) (cs : List ℕ) → m ≡ degreeOf p → refusal (equationTests p cs) ≡ 0 → Ready m p cs
-ready-at m p cs d e = subst (λ (k : ℕ). Ready k p cs) (sym d) (equation-ready p cs e)
+pub ready-at : (m p : ℕ) (cs : List ℕ) → m ≡ degreeOf p → Ready (degreeOf p) p cs → Ready m p cs
+ready-at m p cs d R = subst (λ (k : ℕ). Ready k p cs) (sym d) R
+
+pub ready-accepted : (p : ℕ) (cs : List ℕ) → Ready (degreeOf p) p cs → Accepted p
+ready-accepted p cs R = record { ready = R .field; largest = R .largest }
 
 -- the part of the slice after the first coefficient
 module _ (m p : ℕ) (cs : List ℕ) (R : Ready m p cs) where

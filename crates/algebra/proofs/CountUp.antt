@@ -58,6 +58,13 @@ keep-all t (x ∷ xs) h =
     ap₂ (λ (b : Bool) (l : List ℕ). elim b as (λ (_ : Bool). List ℕ) [ true ↦ x ∷ l | false ↦ l ]) (h x (inl refl))
     (keep-all t xs (λ y k. h y (inr k)))
 
+-- tests that agree on every entry keep the same
+pub keep-alike : (t u : ℕ → Bool) (xs : List ℕ) → ((x : ℕ) → Member x xs → t x ≡ u x) → keep t xs ≡ keep u xs
+keep-alike t u [] h = refl
+keep-alike t u (x ∷ xs) h =
+    ap₂ (λ (b : Bool) (l : List ℕ). elim b as (λ (_ : Bool). List ℕ) [ true ↦ x ∷ l | false ↦ l ]) (h x (inl refl))
+    (keep-alike t u xs (λ y k. h y (inr k)))
+
 -- a function that keeps the order keeps a list ascending
 pub map-ascending : (f : ℕ → ℕ) (n : ℕ) → ((k j : ℕ) → k < j → j < n → f k < f j) → (xs : List ℕ) → Ascending xs
     → ((x : ℕ) → Member x xs → x < n) → Ascending (map f xs)

@@ -12,3 +12,7 @@ pub mod Table
 pub mod Loop
 pub mod CountUp
 pub mod Filled
+pub mod Places
+pub mod Front
+pub mod Last
+pub mod Insert

@@ -1,6 +1,6 @@
 -- B1: injective on a finite set is onto: `onto` for a list without repetition, `onto-below` for the numbers below n, `onto-test` for
 -- those below n that pass a test. Assumes nothing.
-use mathlib.Core.Path.{_≡_, refl, sym, ap, _∙_, subst}
+use mathlib.Core.Path.{_≡_, refl, sym, ap, ap₂, _∙_, subst}
 use mathlib.Core.Logic.{_⊎_, inl, inr}
 use mathlib.Core.Bool.{Bool, true, false}
 use mathlib.Core.List.{List, [], _∷_, map}
@@ -28,6 +28,11 @@ pub to-map : (f : ℕ → ℕ) (xs : List ℕ) (x : ℕ) → Member x xs → Mem
 to-map f [] x h = h
 to-map f (z ∷ xs) x (inl e) = inl (ap f e)
 to-map f (z ∷ xs) x (inr h) = inr (to-map f xs x h)
+
+-- two functions that agree on the entries make the same list
+pub map-alike : (f g : ℕ → ℕ) (xs : List ℕ) → ((x : ℕ) → Member x xs → f x ≡ g x) → map f xs ≡ map g xs
+map-alike f g [] h = refl
+map-alike f g (x ∷ xs) h = ap₂ _∷_ (h x (inl refl)) (map-alike f g xs (λ y k. h y (inr k)))
 
 pub map-nodup : (f : ℕ → ℕ) (xs : List ℕ) → Nodup xs
     → ((x y : ℕ) → Member x xs → Member y xs → f x ≡ f y → x ≡ y) → Nodup (map f xs)

@@ -1,4 +1,5 @@
--- Counting: 1 for equal numbers, sums over the numbers below n, how often a value is taken, how often a number stands in a list. Assumes nothing.
+-- Counting: 1 for equal numbers, sums over the numbers below n, how often a value is taken, how often a number stands in a list, the sum
+-- of a list. Assumes nothing.
 use mathlib.Core.List.{List, [], _∷_}
 use Prim.Native.Nat.{ℕ, suc, zero, _+_}
 use native.Mathlib.Decide.{ℕ-discrete}
@@ -20,3 +21,8 @@ fibre f n y = sumBelow (λ i. same (f i) y) n
 unfoldable pub count : ℕ → List ℕ → ℕ
 count r [] = 0
 count r (a ∷ rs) = same a r + count r rs
+
+-- the sum of a list
+unfoldable pub total : List ℕ → ℕ
+total [] = 0
+total (x ∷ xs) = x + total xs

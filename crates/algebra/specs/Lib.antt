@@ -4,3 +4,4 @@ pub mod Lists
 pub mod Counts
 pub mod Search
 pub mod Loop
+pub mod Insert

@@ -1,9 +1,11 @@
--- Lists of numbers as finite sets: membership, no entry twice, ascending order; the numbers below n; those that pass a test. Assumes nothing.
+-- Lists of numbers as finite sets: membership, no entry twice, ascending order; the numbers below n; those that pass a test; and a list in
+-- so many places. Assumes nothing.
 use mathlib.Core.Path.{_≡_}
 use mathlib.Core.Logic.{_⊎_}
-use mathlib.Core.List.{List, [], _∷_}
+use mathlib.Core.List.{List, [], _∷_, _++_}
 use mathlib.Core.Bool.{Bool, true, false}
-use Prim.Native.Nat.{ℕ, suc, _<_, zero}
+use Prim.Native.Nat.{ℕ, suc, _-_, _<_, zero}
+use lib.ListN.{length, replicate}
 
 -- x is an entry
 abbrev pub Member : ℕ → List ℕ → Type 0
@@ -43,3 +45,7 @@ countUp k (suc n) = k ∷ countUp (suc k) n
 abbrev pub keep : (ℕ → Bool) → List ℕ → List ℕ
 keep t [] = []
 keep t (x ∷ xs) = elim (t x) [ true ↦ x ∷ keep t xs | false ↦ keep t xs ]
+
+-- in n places, "the unused places 0" (01)
+abbrev pub padded : ℕ → List ℕ → List ℕ
+padded n xs = xs ++ replicate (n - length xs) 0

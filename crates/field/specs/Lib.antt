@@ -4,4 +4,3 @@ pub mod Accepted
 pub mod House
 pub mod Calls
 pub mod Answers
-pub mod Rows

@@ -14,3 +14,8 @@ pub mod QuadraticRoots
 pub mod Multiplicity
 pub mod Build
 pub mod Cyclic
+pub mod RootList
+pub mod Padding
+pub mod Simple
+pub mod BuildRoots
+pub mod Largest

@@ -20,11 +20,11 @@ use Rattle.galois.proofs.Divide.{withoutRoot-length, withRoot-length, w
 use Rattle.galois.proofs.Roots.{zero-of-quotient}
 use Rattle.galois.specs.Multiplicity.{multiplicityUpTo, multiplicity}
 
-at-root : (p r n : ℕ) (f : List ℕ) → value p f r ≡ 0 → multiplicityUpTo p r (suc n) f ≡ suc (multiplicityUpTo p r n (withoutRoot p r f))
+pub at-root : (p r n : ℕ) (f : List ℕ) → value p f r ≡ 0 → multiplicityUpTo p r (suc n) f ≡ suc (multiplicityUpTo p r n (withoutRoot p r f))
 unfolding multiplicityUpTo
 at-root p r n f e = ap (λ (v : ℕ). elim v as (λ (_ : ℕ). ℕ) [ zero ↦ suc (multiplicityUpTo p r n (withoutRoot p r f)) | suc k ↦ 0 ]) e
 
-at-other : (p r n : ℕ) (f : List ℕ) → value p f r ≢ 0 → multiplicityUpTo p r (suc n) f ≡ 0
+pub at-other : (p r n : ℕ) (f : List ℕ) → value p f r ≢ 0 → multiplicityUpTo p r (suc n) f ≡ 0
 unfolding multiplicityUpTo
 at-other p r n f e = go (value p f r) e
   where

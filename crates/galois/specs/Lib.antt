@@ -3,6 +3,7 @@ pub mod Power
 pub mod Trace
 pub mod HalfTrace
 pub mod Polynomial
+pub mod Roots
 pub mod Affine
 pub mod Multiplicity
 pub mod Quadratic

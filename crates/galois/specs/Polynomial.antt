@@ -49,6 +49,11 @@ unfoldable pub build : ℕ → List ℕ → List ℕ
 build p [] = 1 ∷ []
 build p (a ∷ rs) = withRoot p a (build p rs)
 
+-- its value at x, factor by factor: (x + a1)·..·(x + an)
+unfoldable pub factorsAt : ℕ → List ℕ → ℕ → ℕ
+factorsAt p [] x = 1
+factorsAt p (r ∷ rs) x = product p (x ⊕ r) (factorsAt p rs x)
+
 -- (x + r)^k·f
 unfoldable pub withRootOften : ℕ → ℕ → ℕ → List ℕ → List ℕ
 withRootOften p r zero f = f

@@ -1,6 +1,7 @@
 -- Sums of chosen entries (`choose`): additive in the number that chooses (`choose-xor`); a power of two chooses one entry (`choose-pow`);
 -- the bits past the last entry do not count (`choose-low`); what holds of every entry and of sums holds of every choice (`choose-all`).
--- A loop over the entries: `choose-next`, `choose-done`; zeros after them: `choose-zeros`. Assumes nothing.
+-- A loop over the entries: `choose-next`, `choose-done`; zeros after them: `choose-zeros`; the first four choices: `choose-one`,
+-- `choose-two`, `choose-three`. Assumes nothing.
 use mathlib.Core.Path.{_≡_, refl, sym, ap, ap₂, _∙_}
 use mathlib.Core.List.{List, [], _∷_, _++_}
 use Prim.Native.Nat.{ℕ, zero, suc, _+_, _*_, _/_, _%_, _^_, _≤_, _<_}
@@ -92,3 +93,19 @@ unfolding choose
 choose-zeros [] zero n = refl
 choose-zeros [] (suc j) n = ap₂ _⊕_ (mul-zero (n % 2)) (choose-zeros [] j (n / 2)) ∙ zero-xor 0
 choose-zeros (d ∷ ds) j n = ap (λ (x : ℕ). n % 2 * d ⊕ x) (choose-zeros ds j (n / 2))
+
+-- what the numbers below four choose: at most the first two entries
+pub choose-one : (ds : List ℕ) → choose ds 1 ≡ getD ds 0 0
+unfolding choose
+choose-one [] = refl
+choose-one (d ∷ ds) = ap₂ _⊕_ (one-mul d) (choose-zero ds) ∙ xor-zero d
+
+pub choose-two : (ds : List ℕ) → choose ds 2 ≡ getD ds 1 0
+unfolding choose
+choose-two [] = refl
+choose-two (d ∷ ds) = ap₂ _⊕_ (zero-mul d) (choose-one ds) ∙ zero-xor (getD ds 0 0)
+
+pub choose-three : (ds : List ℕ) → choose ds 3 ≡ getD ds 0 0 ⊕ getD ds 1 0
+unfolding choose
+choose-three [] = sym (zero-xor 0)
+choose-three (d ∷ ds) = ap₂ _⊕_ (one-mul d) (choose-one ds)

@@ -1,9 +1,10 @@
 -- The solutions by search: base and directions of the numbers below 2 ^ m that pass a test, in the code's sixteen places. Assumes nothing.
 use mathlib.Core.Bool.{Bool, true, false}
-use mathlib.Core.List.{List, _++_}
-use Prim.Native.Nat.{ℕ, _-_, _^_}
+use mathlib.Core.List.{List}
+use Prim.Native.Nat.{ℕ, _^_}
 use lib.Dec.{eqb}
 use lib.ListN.{length, getD, replicate}
+use Rattle.algebra.specs.Lists.{padded}
 use Rattle.algebra.specs.Search.{first, someBelow, everyBelow}
 use Rattle.binary.specs.Bit.{bit}
 use Rattle.linear.specs.declared.inner.solution.Solution.{Solution}
@@ -13,7 +14,7 @@ use Rattle.linear.specs.Directions.{directionsFrom}
 
 -- "k directions in sixteen places, ascending, the unused places 0"
 unfoldable pub placed : List ℕ → List ℕ
-placed ds = ds ++ replicate (places - length ds) 0
+placed ds = padded places ds
 
 -- "with no root: k, base and all directions are 0"
 unfoldable pub solutionIf : Bool → ℕ → List ℕ → Solution

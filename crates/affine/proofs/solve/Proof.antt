@@ -3,6 +3,7 @@ use mathlib.Core.Path.{sym, _∙_}
 use borrow.Author.Needs.{needs}
 use Rattle.field.proofs.Refusal.{refused-by, answered-by}
 use Rattle.affine.specs.Calls.{equationTests, refusedAnswer}
+use Rattle.affine.proofs.Tests.{equation-ready}
 use Rattle.affine.proofs.Found.{answer-is, count-fits}
 use Rattle.affine.proofs.solve.Statement.{statement}
 use Rattle.affine.proofs.solve.Tie as tie
@@ -16,12 +17,14 @@ returns c =
     refused-by refusedAnswer _ _ (equationTests (a .p) (a .coefficients .now)) (c .before .refusal .ensures) (c .if1 .taken)
 
 solution-requires : tie.Need-solution-requires
-solution-requires c κs = sym (c .before .refusal .ensures) ∙ c .if1 .left
+solution-requires c κs =
+    let a = c .before .before .before .args in
+    equation-ready (a .p) (a .coefficients .now) (sym (c .before .refusal .ensures) ∙ c .if1 .left)
 
 of-solution-requires : tie.Need-of-solution-requires
 of-solution-requires c κs =
     let a = c .before .before .before .before .args in
-    count-fits (a .p) (a .coefficients .now) _ (c .solution .ensures) (sym (c .before .before .refusal .ensures) ∙ c .before .if1 .left)
+    count-fits (a .p) (a .coefficients .now) _ (c .solution .ensures) (equation-ready (a .p) (a .coefficients .now) (sym (c .before .before .refusal .ensures) ∙ c .before .if1 .left))
 
 returns-2 : tie.Need-returns-2
 returns-2 c =

@@ -1,8 +1,9 @@
 // An equation's tests, and its solution by elimination.
 ghost use mathlib.Core.Path.{_≡_};
+ghost use Rattle.binary.specs.Factor.{degreeOf};
 ghost use Rattle.field.specs.Accepted.{Accepted};
 ghost use Rattle.field.specs.Refusal.{refusal};
-ghost use Rattle.affine.specs.Equation.{solutionOf};
+ghost use Rattle.affine.specs.Equation.{Ready, solutionOf};
 ghost use Rattle.affine.specs.Calls.{wrongCount, equationTests};
 use crate::inner::columns::columns_of;
 use field::inner::refusal::any_too_large;
@@ -43,7 +44,7 @@ pub fn refusal(p: u32, coefficients: &[u32]) -> u32
 
 // The roots of an equation that has passed: its matrix by columns, and the elimination.
 pub fn solution(p: u32, coefficients: &[u32]) -> Solution
-    requires { ⌜ refusal (equationTests p (now coefficients)) ≡ 0 ⌝ }
+    requires { ⌜ Ready (degreeOf p) p (now coefficients) ⌝ }
     ensures { λ r. ⌜ r ≡ solutionOf p (now (coefficients .entry)) ⌝ }
 {
     let m = degree_of(p);

@@ -4,22 +4,22 @@ use Prim.Native.Nat.{ℕ}
 use borrow.Author.Needs.{needs}
 use Rattle.linear.specs.Solution.{solutionBy}
 use Rattle.affine.specs.Equation.{isRoot, isDirection, solutionOf}
-use Rattle.affine.proofs.Tests.{equation-accepted, equation-ready, ready-at, part-is, part-ready}
+use Rattle.affine.proofs.Tests.{ready-accepted, ready-at, part-is, part-ready}
 use Rattle.affine.proofs.Matrix.{matrix-solution}
 use Rattle.affine.proofs.inner.equation.solution.Statement.{statement}
 use Rattle.affine.proofs.inner.equation.solution.Tie as tie
 
 degree-of-requires : tie.Need-degree-of-requires
-degree-of-requires c κs = equation-accepted _ (c .before .args .coefficients .now) (c .before .pre)
+degree-of-requires c κs = ready-accepted _ (c .before .args .coefficients .now) (c .before .pre)
 
 sub-columns-of : tie.Need-sub-columns-of
 sub-columns-of c =
-    let some = equation-ready (c .before .before .args .p) (c .before .before .args .coefficients .now) (c .before .before .pre) .some in
+    let some = c .before .before .pre .some in
     search needs
 
 part-columns-of-start : tie.Need-part-columns-of-start
 part-columns-of-start c =
-    let some = equation-ready (c .before .before .args .p) (c .before .before .args .coefficients .now) (c .before .before .pre) .some in
+    let some = c .before .before .pre .some in
     search needs
 
 part-columns-of-end : tie.Need-part-columns-of-end
@@ -34,8 +34,7 @@ columns-of-requires c κs =
 
 shared-slice-read-rows-of : tie.Need-shared-slice-read-rows-of
 shared-slice-read-rows-of c =
-    let a = c .before .before .before .before .before .args in
-    let some = equation-ready (a .p) (a .coefficients .now) (c .before .before .before .before .before .pre) .some in
+    let some = c .before .before .before .before .before .pre .some in
     search needs
 
 rows-of-requires : tie.Need-rows-of-requires

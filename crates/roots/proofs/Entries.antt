@@ -1,0 +1,30 @@
+-- The entries of a list of five, one by one (`five-entries`), and of an equation by its kind. Assumes nothing.
+use mathlib.Core.Path.{_≡_, refl, _∙_}
+use mathlib.Core.List.{List, [], _∷_}
+use Prim.Native.Nat.{ℕ}
+use native.Mathlib.Omega.{arith}
+use lib.ListN.{length, getD}
+use Rattle.roots.specs.Equation.{quarticOf}
+
+pub five-entries : (l : List ℕ) → length l ≡ 5 → l ≡ getD l 0 0 ∷ getD l 1 0 ∷ getD l 2 0 ∷ getD l 3 0 ∷ getD l 4 0 ∷ []
+five-entries [] h = absurd (omega arith)
+five-entries (a ∷ []) h = absurd (omega arith)
+five-entries (a ∷ b ∷ []) h = absurd (omega arith)
+five-entries (a ∷ b ∷ c ∷ []) h = absurd (omega arith)
+five-entries (a ∷ b ∷ c ∷ d ∷ []) h = absurd (omega arith)
+five-entries (a ∷ b ∷ c ∷ d ∷ e ∷ []) h = refl
+five-entries (a ∷ b ∷ c ∷ d ∷ e ∷ f ∷ l) h = absurd (omega arith)
+
+-- the entries of an equation by its kind
+module _ (f : List ℕ) (h : length f ≡ 5) where
+  pub as-cubic : getD f 4 0 ≡ 0 → f ≡ getD f 0 0 ∷ getD f 1 0 ∷ getD f 2 0 ∷ getD f 3 0 ∷ 0 ∷ []
+  as-cubic e = five-entries f h ∙ (λ i. getD f 0 0 ∷ getD f 1 0 ∷ getD f 2 0 ∷ getD f 3 0 ∷ e i ∷ [])
+
+  pub as-affine : getD f 3 0 ≡ 0 → f ≡ quarticOf (getD f 0 0) (getD f 1 0) (getD f 2 0) (getD f 4 0)
+  as-affine e = five-entries f h ∙ (λ i. getD f 0 0 ∷ getD f 1 0 ∷ getD f 2 0 ∷ e i ∷ getD f 4 0 ∷ [])
+
+  pub as-linear : getD f 2 0 ≡ 0 → getD f 3 0 ≡ 0 → getD f 4 0 ≡ 0 → f ≡ getD f 0 0 ∷ getD f 1 0 ∷ 0 ∷ 0 ∷ 0 ∷ []
+  as-linear a b c = five-entries f h ∙ (λ i. getD f 0 0 ∷ getD f 1 0 ∷ a i ∷ b i ∷ c i ∷ [])
+
+  pub as-constant : getD f 1 0 ≡ 0 → getD f 2 0 ≡ 0 → getD f 3 0 ≡ 0 → getD f 4 0 ≡ 0 → f ≡ getD f 0 0 ∷ 0 ∷ 0 ∷ 0 ∷ 0 ∷ []
+  as-constant o a b c = five-entries f h ∙ (λ i. getD f 0 0 ∷ o i ∷ a i ∷ b i ∷ c i ∷ [])

@@ -1,0 +1,70 @@
+-- `solve` meets its contract. Assumes nothing.
+use mathlib.Core.Path.{sym, _∙_}
+use Rattle.field.proofs.Refusal.{refused-by}
+use Rattle.roots.specs.Calls.{equationTests, refusedAnswer}
+use Rattle.roots.proofs.Tests.{equation-passed}
+use Rattle.roots.proofs.Multiples.{count-few}
+use Rattle.roots.proofs.Solving.{solve-ready, solve-answer}
+use borrow.Author.Needs.{needs}
+use Rattle.roots.proofs.solve.Statement.{statement}
+use Rattle.roots.proofs.solve.Tie as tie
+
+refusal-requires : tie.Need-refusal-requires
+refusal-requires c κs = search needs
+
+returns : tie.Need-returns
+returns c =
+    let a = c .before .before .before .args in
+    refused-by refusedAnswer _ _ (equationTests (a .p) (a .coefficients .now)) (c .before .refusal .ensures) (c .if1 .taken)
+
+degree-of-requires : tie.Need-degree-of-requires
+degree-of-requires c κs =
+    let a = c .before .before .before .args in
+    equation-passed (a .p) (a .coefficients .now) (sym (c .before .refusal .ensures) ∙ c .if1 .left) .accepted
+
+five-requires : tie.Need-five-requires
+five-requires c κs =
+    let a = c .before .before .before .before .args in
+    equation-passed (a .p) (a .coefficients .now) (sym (c .before .before .refusal .ensures) ∙ c .before .if1 .left) .few
+
+candidates-of-requires : tie.Need-candidates-of-requires
+candidates-of-requires c κs =
+    let a = c .before .before .before .before .before .args in
+    solve-ready (a .p) (a .coefficients .now) _ (c .before .before .before .refusal .ensures) (c .before .before .if1 .left) _ (c .before .degree-of .ensures) _ (c .five .ensures)
+
+roots-among-requires : tie.Need-roots-among-requires
+roots-among-requires c κs =
+    let a = c .before .before .before .before .before .before .args in
+    (solve-ready (a .p) (a .coefficients .now) _ (c .before .before .before .before .refusal .ensures) (c .before .before .before .if1 .left) _ (c .before .before .degree-of .ensures) _ (c .before .five .ensures), c .candidates-of .ensures)
+
+multiplicities-requires : tie.Need-multiplicities-requires
+multiplicities-requires c κs =
+    let a = c .before .before .before .before .before .before .before .before .args in
+    (solve-ready (a .p) (a .coefficients .now) _ (c .before .before .before .before .before .before .refusal .ensures) (c .before .before .before .before .before .if1 .left) _ (c .before .before .before .before .degree-of .ensures) _ (c .before .before .before .five .ensures), c .before .roots-among .ensures)
+
+cast-t14 : tie.Need-cast-t14
+cast-t14 c =
+    let a = c .before .before .before .before .before .before .before .before .before .before .args in
+    let R = solve-ready (a .p) (a .coefficients .now) _ (c .before .before .before .before .before .before .before .before .refusal .ensures) (c .before .before .before .before .before .before .before .if1 .left) _ (c .before .before .before .before .before .before .degree-of .ensures) _ (c .before .before .before .before .before .five .ensures) in
+    let few = count-few _ _ _ R (search needs) _ (c .before .before .before .roots-among .ensures) in
+    search needs
+
+returns-2 : tie.Need-returns-2
+returns-2 c =
+    let a = c .before .before .before .before .before .before .before .before .before .before .args in
+    solve-answer (a .p) (a .coefficients .now) _ (c .before .before .before .before .before .before .before .before .refusal .ensures) (c .before .before .before .before .before .before .before .if1 .left) _ (c .before .before .before .before .before .before .degree-of .ensures) _ (c .before .before .before .before .before .five .ensures)
+    _ (c .before .before .before .roots-among .ensures) _ (c .before .multiplicities .ensures)
+
+pub solve-spec : {M : Type 1} → statement M
+solve-spec =
+    tie.close
+    (tie.spec
+    refusal-requires
+    returns
+    degree-of-requires
+    five-requires
+    candidates-of-requires
+    roots-among-requires
+    multiplicities-requires
+    cast-t14
+    returns-2)

@@ -1,0 +1,6 @@
+pub mod Limits
+pub mod Calls
+pub mod Answers
+pub mod Equation
+pub mod Candidates
+pub mod Search
