@@ -1,13 +1,8 @@
--- The tests of an equation: what each says after those before it (`count-applies`, `size-applies`, `all-pass`), and what has passed them
--- (`equation-ready`). Assumes nothing.
-use mathlib.Core.Path.{_≡_, refl, sym, _∙_, subst}
-use mathlib.Core.Bool.{true, false, false≢true, or-true}
-use mathlib.Core.List.{List, [], _∷_, _++_}
-use Prim.Native.Nat.{ℕ, _+_, _-_, _≤_, _<_}
-use native.Mathlib.Decide.{ℕ-discrete, decLt}
+-- What has passed the tests of an equation (`equation-ready`), and the part of it after its first coefficient. Assumes nothing.
+use mathlib.Core.Path.{_≡_, refl, sym, subst}
+use mathlib.Core.List.{List, [], _∷_}
+use Prim.Native.Nat.{ℕ, _+_, _-_, _≤_}
 use native.Mathlib.Omega.{arith}
-use borrow.Author.Tests.{eq-eqb, lt-ltb}
-use lib.Dec.{eqb}
 use lib.ListN.{length, take, drop, length-drop}
 use lib.Seq.{take-all}
 use Rattle.binary.specs.Factor.{degreeOf}
@@ -15,46 +10,9 @@ use Rattle.galois.specs.Polynomial.{Coeffs}
 use Rattle.field.specs.Accepted.{Accepted}
 use Rattle.field.specs.Refusal.{Test, _⇒_, refusal, anyTooLarge, polynomialTests}
 use Rattle.field.proofs.Refusal.{then-kept, then-applies, then-passes, passes, accepted}
-use Rattle.field.proofs.Coefficients.{coefficients-small}
+use Rattle.field.proofs.Coefficients.{count-some, count-few, coefficients-small}
 use Rattle.affine.specs.Equation.{Ready}
-use Rattle.affine.specs.Calls.{wrongCount, equationTests}
-
-module _ (p : ℕ) (cs : List ℕ) (r : ℕ) (e : r ≡ refusal (polynomialTests p)) (z : r ≡ 0) where
-  abbrev counted : List Test
-  counted = polynomialTests p ++ wrongCount p (length cs) ⇒ 3 ∷ []
-
-  abbrev size : List Test
-  size = anyTooLarge p cs ⇒ 4 ∷ []
-
-  pub count-applies : wrongCount p (length cs) ≡ true → 3 ≡ refusal (equationTests p cs)
-  count-applies q =
-      then-kept counted size 3 (then-applies (polynomialTests p) r 3 (wrongCount p (length cs)) tt e z (sym q)) (λ w. omega arith)
-
-  count-passes : wrongCount p (length cs) ≡ false → 0 ≡ refusal counted
-  count-passes q = then-passes (polynomialTests p) r 3 (wrongCount p (length cs)) tt e z (sym q)
-
-  pub size-applies : wrongCount p (length cs) ≡ false → anyTooLarge p cs ≡ true → 4 ≡ refusal (equationTests p cs)
-  size-applies q k = then-applies counted 0 4 (anyTooLarge p cs) tt (count-passes q) refl (sym k)
-
-  pub all-pass : wrongCount p (length cs) ≡ false → anyTooLarge p cs ≡ false → 0 ≡ refusal (equationTests p cs)
-  all-pass q k = then-passes counted 0 4 (anyTooLarge p cs) tt (count-passes q) refl (sym k)
-
--- the count is right: not 0, and at most m + 1
-count-some : (p n : ℕ) → wrongCount p n ≡ false → 0 < n
-unfolding wrongCount
-count-some p n e = go (ℕ-discrete n 0)
-  where
-    go : Dec (n ≡ 0) → 0 < n
-    go (yes q) = absurd (false≢true (sym e ∙ rw (eq-eqb n 0 q)))
-    go (no q) = omega arith
-
-count-few : (p n : ℕ) → wrongCount p n ≡ false → n ≤ degreeOf p + 1
-unfolding wrongCount
-count-few p n e = go (decLt (degreeOf p + 1) n)
-  where
-    go : Dec (degreeOf p + 1 < n) → n ≤ degreeOf p + 1
-    go (yes q) = absurd (false≢true (sym e ∙ rw (lt-ltb (degreeOf p + 1) n q) (or-true (eqb n 0))))
-    go (no q) = omega arith
+use Rattle.affine.specs.Calls.{equationTests}
 
 -- what has passed
 equation-accepted : (p : ℕ) (cs : List ℕ) → refusal (equationTests p cs) ≡ 0 → Accepted p
@@ -69,8 +27,8 @@ equation-ready p cs e =
     record {
       field = A .ready;
       largest = A .largest;
-      some = count-some p (length cs) (t .1 .1 .0);
-      few = count-few p (length cs) (t .1 .1 .0);
+      some = count-some (degreeOf p + 1) (length cs) (t .1 .1 .0);
+      few = count-few (degreeOf p + 1) (length cs) (t .1 .1 .0);
       small = coefficients-small p cs (t .1 .1 .1 .0);
     }
 

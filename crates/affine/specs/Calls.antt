@@ -1,24 +1,20 @@
 -- What each public call says, for every input: its tests in the order of the table of numbers, and its value (01, "Affine equations").
 -- Assumes nothing.
-use mathlib.Core.Bool.{Bool, true, false, _||_}
+use mathlib.Core.Bool.{Bool, true, false}
 use mathlib.Core.List.{List, [], _∷_, _++_}
 use Prim.Native.Nat.{ℕ, _+_, _^_}
-use lib.Dec.{eqb, leb, ltb}
+use lib.Dec.{leb, ltb}
 use lib.ListN.{length, drop, replicate}
 use Rattle.algebra.specs.Search.{someBelow}
 use Rattle.binary.specs.Factor.{degreeOf}
-use Rattle.field.specs.Refusal.{Test, _⇒_, refusal, Outcome, turnedDown, gives, answerBy, outcome, anyTooLarge, polynomialTests}
+use Rattle.field.specs.Refusal.{Test, _⇒_, refusal, Outcome, turnedDown, gives, answerBy, outcome, polynomialTests, wrongCount, listTests}
 use Rattle.linear.specs.Limits.{places}
 use Rattle.linear.specs.Solution.{placed}
 use Rattle.affine.specs.Equation.{isRoot, allRoots, baseOf, directionsOf, rootAt}
 
--- 3: "coefficient count 0 or above" m + 1
-unfoldable pub wrongCount : ℕ → ℕ → Bool
-wrongCount p n = eqb n 0 || ltb (degreeOf p + 1) n
-
--- then 4: "an element or coefficient is 2^m or more"
+-- 3: "coefficient count 0 or above" m + 1, then 4: "an element or coefficient is 2^m or more"
 abbrev pub equationTests : ℕ → List ℕ → List Test
-equationTests p cs = polynomialTests p ++ wrongCount p (length cs) ⇒ 3 ∷ anyTooLarge p cs ⇒ 4 ∷ []
+equationTests p cs = polynomialTests p ++ listTests p (wrongCount (degreeOf p + 1) (length cs)) cs
 
 -- "found or not", and k
 pub record Space : Type 0 where

@@ -1,6 +1,6 @@
 -- The first i entries of a list, as a loop has them after i turns: one more (`front-split`, `front-here`, `front-more`), those of the whole
 -- (`front-within`), and what comes next is none of them where no entry stands twice (`front-once`). Assumes nothing.
-use mathlib.Core.Path.{_≡_, refl, sym, ap₂, subst}
+use mathlib.Core.Path.{_≡_, refl, ap₂, subst}
 use mathlib.Core.Logic.{_⊎_, inl, inr}
 use mathlib.Core.List.{List, [], _∷_, map}
 use Prim.Native.Nat.{ℕ, zero, suc, _≤_, _<_}

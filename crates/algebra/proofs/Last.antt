@@ -1,5 +1,5 @@
 -- One entry after the others: its members (`to-first`, `to-last`, `of-last`), and that no entry stands twice (`last-nodup`). Assumes nothing.
-use mathlib.Core.Path.{_≡_, refl, sym}
+use mathlib.Core.Path.{_≡_, sym}
 use mathlib.Core.Logic.{_⊎_, inl, inr}
 use mathlib.Core.List.{List, [], _∷_, _++_}
 use Prim.Native.Nat.{ℕ}

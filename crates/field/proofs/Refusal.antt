@@ -1,4 +1,4 @@
--- The tests of a call: `then-kept`, `then-applies` and `then-passes` for one more test after others, `down` and `given` for what a call
+-- The tests of a call: `then-kept`, `then-applies`, `then-passes` and `then-say` for tests after others, `down` and `given` for what a call
 -- then says, `passes` for tests that turn nothing down, `accepted` and `element-passed` for what has passed. Assumes nothing.
 use mathlib.Core.Path.{_≡_, refl, sym, ap, _∙_}
 use mathlib.Core.Logic.{_≢_}
@@ -50,6 +50,11 @@ passes ((true ⇒ suc n) ∷ ts) t e = absurd (omega arith)
 passes ((false ⇒ zero) ∷ ts) t e = absurd t
 passes ((false ⇒ suc n) ∷ ts) t e = (refl, passes ts t e)
 
+pub none-applies : (ts : List Test) → Pass ts → refusal ts ≡ 0
+none-applies [] h = refl
+none-applies ((true ⇒ n) ∷ ts) h = absurd (false≢true (sym (h .0)))
+none-applies ((false ⇒ n) ∷ ts) h = none-applies ts (h .1)
+
 -- the tests before pass, and one more decides
 pub then-applies : (ts : List Test) (r n : ℕ) (b : Bool) → T (proper ts) → r ≡ refusal ts → r ≡ 0 → true ≡ b → n ≡ refusal (ts ++ b ⇒ n ∷ [])
 then-applies ts r n b t e z q = ap (λ (c : Bool). refusal (c ⇒ n ∷ [])) q ∙ sym (refusal-append ts (b ⇒ n ∷ []) t (sym e ∙ z))
@@ -59,6 +64,10 @@ then-passes ts r n b t e z q = ap (λ (c : Bool). refusal (c ⇒ n ∷ [])) q �
 
 pub then-kept : (ts us : List Test) (r : ℕ) → r ≡ refusal ts → r ≢ 0 → r ≡ refusal (ts ++ us)
 then-kept ts us r e n = e ∙ sym (refusal-kept ts us (λ z. n (e ∙ z)))
+
+-- the tests before pass, and others say
+pub then-say : (ts us : List Test) (r n : ℕ) → T (proper ts) → r ≡ refusal ts → r ≡ 0 → n ≡ refusal us → n ≡ refusal (ts ++ us)
+then-say ts us r n t e z q = q ∙ sym (refusal-append ts us t (sym e ∙ z))
 
 -- what a call answers: turned down where a test applies, else its value
 pub refused-by : {A : Type 0} (refused : ℕ → A) (v : A) (r : ℕ) (ts : List Test) → r ≡ refusal ts → r ≢ 0 → refused r ≡ answerBy (refusal ts) refused v

@@ -2,7 +2,7 @@
 use mathlib.Core.Bool.{Bool, true, false, not, _||_}
 use mathlib.Core.List.{List, [], _∷_, _++_}
 use Prim.Native.Nat.{ℕ, zero, suc, _^_}
-use lib.Dec.{leb, ltb}
+use lib.Dec.{eqb, leb, ltb}
 use lib.ListN.{length, getD}
 use Rattle.algebra.specs.Search.{someBelow}
 use Rattle.binary.specs.Factor.{degreeOf, factorFree}
@@ -52,7 +52,15 @@ anyTooLarge p cs = someBelow (λ i. tooLarge p (getD cs i 0)) (length cs)
 abbrev pub polynomialTests : ℕ → List Test
 polynomialTests p = outOfRange p ⇒ 1 ∷ hasFactor p ⇒ 2 ∷ []
 
--- then the element
+-- 3: "coefficient count 0 or above" the most that there may be
+unfoldable pub wrongCount : ℕ → ℕ → Bool
+wrongCount most n = eqb n 0 || ltb most n
+
+-- then a list of elements or coefficients: 3 where their number is wrong, and 4
+abbrev pub listTests : ℕ → Bool → List ℕ → List Test
+listTests p wrong cs = wrong ⇒ 3 ∷ anyTooLarge p cs ⇒ 4 ∷ []
+
+-- or the element
 abbrev pub elementTests : ℕ → ℕ → List Test
 elementTests p a = polynomialTests p ++ tooLarge p a ⇒ 4 ∷ []
 

@@ -19,3 +19,6 @@ pub mod Padding
 pub mod Simple
 pub mod BuildRoots
 pub mod Largest
+pub mod CubeRoots
+pub mod EvenCubes
+pub mod Cubes

@@ -1,5 +1,5 @@
 -- Zeros above the highest coefficient change nothing: neither the value (`value-pad`), nor the roots (`roots-pad`), nor a multiplicity
--- (`multiplicity-pad`); with x + a multiplied in they stay (`withRoot-pad`). Assumes nothing.
+-- (`multiplicity-pad`). Assumes nothing.
 use mathlib.Core.Path.{_≡_, refl, sym, ap, ap₂, _∙_}
 use mathlib.Core.List.{List, [], _∷_, _++_}
 use Prim.Native.Nat.{ℕ, zero, suc}
@@ -7,11 +7,9 @@ use native.Mathlib.Decide.{ℕ-discrete}
 use native.Mathlib.Omega.{arith}
 use lib.ListN.{length, replicate}
 use Rattle.binary.specs.Xor.{_⊕_}
-use Rattle.binary.proofs.Xor.{xor-zero}
 use Rattle.binary.specs.Product.{product}
-use Rattle.binary.proofs.Product.{product-zero}
 use Rattle.galois.specs.Field.{Field}
-use Rattle.galois.specs.Polynomial.{value, AllZero, sums, withoutRoot, shifted, withRoot}
+use Rattle.galois.specs.Polynomial.{value, AllZero, sums, withoutRoot}
 use Rattle.galois.specs.Roots.{rootsOf}
 use Rattle.galois.specs.Multiplicity.{multiplicityUpTo, multiplicity}
 use Rattle.galois.proofs.Polynomial.{zero-value}
@@ -86,18 +84,3 @@ module _ (m p : ℕ) (F : Field m p) (r n : ℕ) where
 
   pub multiplicity-pad : (f : List ℕ) → (AllZero f → ⊥) → multiplicity p r (f ++ replicate n 0) ≡ multiplicity p r f
   multiplicity-pad f z = pad-at (length f) f refl z
-
--- the product with x + a
-shifted-zeros : (p a b n : ℕ) → shifted p a b (zeros n) ≡ b ∷ zeros n
-unfolding shifted
-shifted-zeros p a b zero = refl
-shifted-zeros p a b (suc n) = ap₂ _∷_ (ap (λ (v : ℕ). b ⊕ v) (product-zero p a) ∙ xor-zero b) (shifted-zeros p a 0 n)
-
-shifted-pad : (p a b : ℕ) (f : List ℕ) (n : ℕ) → shifted p a b (f ++ zeros n) ≡ shifted p a b f ++ zeros n
-unfolding shifted
-shifted-pad p a b [] n = shifted-zeros p a b n
-shifted-pad p a b (c ∷ f) n = ap (λ (t : List ℕ). (b ⊕ product p a c) ∷ t) (shifted-pad p a c f n)
-
-pub withRoot-pad : (p a : ℕ) (f : List ℕ) (n : ℕ) → withRoot p a (f ++ replicate n 0) ≡ withRoot p a f ++ replicate n 0
-unfolding withRoot
-withRoot-pad p a f n = shifted-pad p a 0 f n

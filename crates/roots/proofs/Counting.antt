@@ -4,7 +4,7 @@ use mathlib.Core.Logic.{_≢_}
 use mathlib.Core.List.{List, [], _∷_, _++_}
 use Prim.Native.Nat.{ℕ, suc, _+_, _-_, _≤_, _<_}
 use native.Mathlib.Omega.{arith}
-use lib.ListN.{length, getD, drop, length-append, length-drop}
+use lib.ListN.{length, getD, drop, length-append}
 use Rattle.galois.specs.Field.{Field}
 use Rattle.galois.specs.Polynomial.{value, Coeffs, sums, withoutRoot}
 use Rattle.galois.specs.Multiplicity.{multiplicityUpTo, multiplicity}

@@ -1,6 +1,6 @@
 -- Division by x + r from the highest coefficient down: from place i on it is done (`dividing-start`, `dividing-next`, `dividing-end`); and
 -- the product with x + a from the constant up (`raising-start`, `raising-next`, `raising-end`). Assumes nothing.
-use mathlib.Core.Path.{_≡_, refl, sym, ap, ap₂, _∙_}
+use mathlib.Core.Path.{_≡_, refl, sym, ap, _∙_}
 use mathlib.Core.List.{List, [], _∷_, _++_}
 use Prim.Native.Nat.{ℕ, zero, suc, _+_, _-_, _^_, _≤_, _<_}
 use native.Mathlib.Omega.{arith}

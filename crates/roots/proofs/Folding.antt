@@ -1,6 +1,6 @@
 -- E4: c + l0·x + l1·x² + l2·x⁴ as an affine equation, for m = 2 too: it has the same roots (`folded-roots`), and the solver of affine
 -- equations takes it (`folded-ready`). Assumes nothing.
-use mathlib.Core.Path.{_≡_, refl, sym, ap, ap₂, _∙_, subst}
+use mathlib.Core.Path.{_≡_, refl, sym, ap, _∙_, subst}
 use mathlib.Core.Logic.{_≢_}
 use mathlib.Core.Bool.{Bool, true, false}
 use mathlib.Core.List.{List, [], _∷_}
@@ -10,7 +10,7 @@ use borrow.Author.Tests.{eq-eqb, ne-eqb}
 use lib.Bits.{bitXor}
 use lib.Dec.{T, eqb, eqb→eq}
 use lib.ListN.{length, getD, drop}
-use Rattle.algebra.specs.Lists.{Member, countUp}
+use Rattle.algebra.specs.Lists.{countUp}
 use Rattle.algebra.proofs.CountUp.{of-countUp, keep-alike}
 use Rattle.binary.specs.Xor.{_⊕_}
 use Rattle.binary.proofs.Xor.{ac, is-xor, xor-lt}

@@ -21,6 +21,3 @@ pub mod Unique
 pub mod Theorems
 pub mod RoundTrip
 pub mod Slips
-pub mod CubeRoots
-pub mod EvenCubes
-pub mod Cubes

@@ -1,21 +1,20 @@
 -- E3: with s² = c1/c3 every root of a quartic is s or s + 1/y, where y is a root of f(s)·y⁴ + (c2 + c3·s)·y² + c3·y + c4
 -- (`quartic-candidates`), and no such y is 0 (`quartic-units`). Assumes nothing.
-use mathlib.Core.Path.{_≡_, refl, sym, ap, ap₂, _∙_, subst}
+use mathlib.Core.Path.{_≡_, refl, sym, ap, _∙_, subst}
 use mathlib.Core.Logic.{_≢_, _⊎_, inl, inr}
 use mathlib.Core.List.{List, [], _∷_, _++_, map}
-use Prim.Native.Nat.{ℕ, _-_, _^_, _≤_, _<_}
+use Prim.Native.Nat.{ℕ, _-_, _^_, _<_}
 use native.Mathlib.Decide.{ℕ-discrete}
 use native.Mathlib.Omega.{arith}
-use lib.Bits.{bitXor}
 use lib.Pow.{pow-pos}
 use Rattle.algebra.specs.Expression.{var, O, I, _⊕_ as _∔_, _⊗_, pow}
 use Rattle.algebra.proofs.Identity.{ring-on-given, alone, using-eq}
-use Rattle.algebra.specs.Lists.{Member, Nodup}
+use Rattle.algebra.specs.Lists.{Member}
 use Rattle.algebra.proofs.Ascending.{ascending-nodup}
 use Rattle.algebra.proofs.Onto.{of-map, to-map, map-nodup}
 use Rattle.algebra.proofs.Last.{to-first, to-last, of-last, last-nodup}
 use Rattle.binary.specs.Xor.{_⊕_}
-use Rattle.binary.proofs.Xor.{ac, is-xor, xor-zero, xor-lt, equal-of-xor, xor-twice}
+use Rattle.binary.proofs.Xor.{ac, xor-zero, xor-lt, equal-of-xor}
 use Rattle.binary.specs.Product.{product}
 use Rattle.binary.proofs.Product.{product-zero, product-comm}
 use Rattle.galois.specs.Field.{Field}
@@ -29,8 +28,8 @@ use Rattle.galois.proofs.Polynomial.{value-lt}
 use Rattle.galois.proofs.RootList.{roots-iff, roots-ascending}
 use Rattle.arithmetic.specs.Quotient.{quotientOf}
 use Rattle.arithmetic.proofs.Quotient.{quotient-is, quotient-product, quotient-lt}
-use Rattle.roots.specs.Equation.{Ready, Covers, Units, quarticOf, shift, fromInverse}
-use Rattle.roots.specs.Candidates.{entries, AreRoots, MovedBack, IsCandidates}
+use Rattle.roots.specs.Equation.{Ready, Units, quarticOf, shift, fromInverse}
+use Rattle.roots.specs.Candidates.{AreRoots, MovedBack, IsCandidates}
 use Rattle.roots.specs.declared.inner.candidates.Candidates.{Candidates}
 use Rattle.roots.proofs.Completing.{positive}
 

@@ -17,13 +17,13 @@ use Rattle.galois.proofs.Build.{build-length, build-coeffs, build-nonzero}
 use Rattle.galois.proofs.BuildRoots.{roots-back, multiplicities-back, build-product, build-order}
 use Rattle.galois.proofs.Padding.{value-pad}
 use Rattle.field.specs.Refusal.{_⇒_, refusal, gives, answerBy, anyTooLarge, polynomialTests}
-use Rattle.field.proofs.Refusal.{passes, answered-by}
-use Rattle.field.proofs.Coefficients.{coefficients-small, coefficients-pass}
+use Rattle.field.proofs.Refusal.{passes, answered-by, none-applies}
+use Rattle.field.proofs.Coefficients.{count-right, coefficients-small, coefficients-pass}
 use Rattle.roots.specs.Limits.{mostCoefficients, mostRoots}
 use Rattle.roots.specs.Calls.{equationTests, buildTests, solved, refusedAnswer, solveAnswer, Built, built, refusedBuilt, buildAnswer}
 use Rattle.roots.proofs.Zeros.{coeffs-pad, zero-pad, nonzero-passes, same-no, solved-pad}
-use Rattle.roots.proofs.Tests.{all-pass, build-passed}
-use Rattle.roots.proofs.Theorems.{right-count, same-answer}
+use Rattle.roots.proofs.Tests.{build-passed}
+use Rattle.roots.proofs.Theorems.{same-answer}
 
 module _ (p : ℕ) (rs : List ℕ) (z : refusal (buildTests p rs) ≡ 0) where
   abbrev m : ℕ
@@ -60,10 +60,19 @@ module _ (p : ℕ) (rs : List ℕ) (z : refusal (buildTests p rs) ≡ 0) where
       let t = passes (buildTests p rs) tt z in
       let n = mostCoefficients - length (build p rs) in
       let l = five-length in
-      sym (all-pass p five 0 (rw (t .0, t .1 .0) refl) refl
-      (right-count (length five) (omega arith) (omega arith))
-      (coefficients-pass p five (coeffs-pad m (build p rs) n (build-coeffs m p F rs)))
-      (nonzero-passes five (λ w. build-nonzero m p F rs (zero-pad (build p rs) n w))))
+      none-applies (equationTests p five) (
+        t .0,
+        (
+          t .1 .0,
+          (
+            count-right mostCoefficients (length five) (omega arith) (omega arith),
+            (
+              coefficients-pass p five (coeffs-pad m (build p rs) n (build-coeffs m p F rs)),
+              (nonzero-passes five (λ w. build-nonzero m p F rs (zero-pad (build p rs) n w)), tt),
+            ),
+          ),
+        ),
+      )
 
   -- building and solving gives the roots back, each as often as it was put in
   pub round-trip : solveAnswer p (buildAnswer p rs .coefficients)

@@ -1,5 +1,5 @@
 -- Where source 000 leads astray (01, "Where the papers lead astray"), over every field: D of a quadratic (`quadratic-form`, `printed-D-only`,
--- `printed-D-misses`), E2 of a quartic (`quartic-form`, `printed-E2-only`), a cubic with B = A² (`cube-form`). Assumes nothing.
+-- `printed-D-misses`), E2 of a quartic (`quartic-form`, `printed-E2-only`). (A cubic with B = A² is in galois/proofs/Cubes.) Assumes nothing.
 use mathlib.Core.Path.{_≡_, refl, sym, ap, _∙_}
 use mathlib.Core.Logic.{_≢_, _↔_}
 use mathlib.Core.List.{List, [], _∷_}
@@ -111,17 +111,3 @@ module _ (m p : ℕ) (F : Field m p) where
     pub printed-E2-only : a0 ≢ 0 → product p E2 (product p a2 a2) ≡ a0 → a3 ≡ 1
     printed-E2-only n0 printed =
         product-cancel m p (F .irr) a0 a3 1 n0 h0 h3 (one-lt m p F) (sym is-E2 ∙ printed ∙ sym (product-one m p (F .irr .degree) a0 h0))
-
-  -- x³ + A·x² + A²·x + C is 0 exactly when (x + A)³ = C + A³
-  pub cube-form : (A C x : ℕ) → A < 2 ^ m → C < 2 ^ m → x < 2 ^ m
-      → (value p (C ∷ product p A A ∷ A ∷ 1 ∷ []) x ≡ 0) ↔ (product p (x ⊕ A) (product p (x ⊕ A) (x ⊕ A)) ≡ C ⊕ product p A (product p A A))
-  unfolding value
-  cube-form A C x hA hC hx =
-      let y = product p (x ⊕ A) (product p (x ⊕ A) (x ⊕ A)) in
-      let c = C ⊕ product p A (product p A A) in
-      let same : value p (C ∷ product p A A ∷ A ∷ 1 ∷ []) x ≡ y ⊕ c =
-      ring-on (ring m p F) ((A, hA) ∷ (C, hC) ∷ (x, hx) ∷ [])
-      (var 1 ∔ var 2 ⊗ (var 0 ⊗ var 0 ∔ var 2 ⊗ (var 0 ∔ var 2 ⊗ (I ∔ var 2 ⊗ O))))
-      ((var 2 ∔ var 0) ⊗ ((var 2 ∔ var 0) ⊗ (var 2 ∔ var 0)) ∔ (var 1 ∔ var 0 ⊗ (var 0 ⊗ var 0)))
-      refl in
-      (λ e. equal-of-xor y c (sym same ∙ e), λ e. same ∙ ap (λ (v : ℕ). v ⊕ c) e ∙ xor-self c)

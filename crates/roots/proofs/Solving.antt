@@ -1,9 +1,8 @@
 -- From the roots found to the answer: the equation is ready (`solve-ready`), and what was found is the call's answer (`solve-answer`).
 -- Assumes nothing.
-use mathlib.Core.Path.{_≡_, refl, sym, ap, ap₂, _∙_}
+use mathlib.Core.Path.{_≡_, sym, ap, ap₂, _∙_}
 use mathlib.Core.List.{List, map}
 use Prim.Native.Nat.{ℕ}
-use lib.ListN.{length}
 use Rattle.algebra.specs.Lists.{padded}
 use Rattle.binary.specs.Factor.{degreeOf}
 use Rattle.galois.specs.Roots.{rootsOf}

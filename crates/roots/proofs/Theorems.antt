@@ -3,12 +3,10 @@
 -- are (`at-most-the-degree`, `count-at-most`, `count-fits`). Assumes nothing.
 use mathlib.Core.Path.{_≡_, refl, sym, ap, _∙_}
 use mathlib.Core.Logic.{_↔_}
-use mathlib.Core.Bool.{Bool, false}
+use mathlib.Core.Bool.{Bool}
 use mathlib.Core.List.{List, [], _∷_, _++_, map}
 use Prim.Native.Nat.{ℕ, zero, suc, _≤_, _<_}
 use native.Mathlib.Omega.{arith}
-use borrow.Author.Tests.{le-ltb}
-use lib.Dec.{eqb·suc-zero}
 use lib.ListN.{length, replicate, length-append}
 use Rattle.algebra.specs.Lists.{Member, Nodup, Ascending}
 use Rattle.algebra.specs.Counts.{total}
@@ -20,19 +18,14 @@ use Rattle.galois.specs.Roots.{rootsOf}
 use Rattle.galois.specs.Multiplicity.{multiplicity, PowerDivides}
 use Rattle.galois.proofs.RootList.{roots-iff, roots-ascending, roots-few}
 use Rattle.galois.proofs.Largest.{multiplicity-divides, multiplicity-largest}
-use Rattle.field.specs.Refusal.{Test, _⇒_, refusal, answerBy, anyTooLarge, polynomialTests}
+use Rattle.field.specs.Refusal.{Test, _⇒_, refusal, answerBy, anyTooLarge, polynomialTests, wrongCount}
+use Rattle.field.proofs.Coefficients.{count-right}
 use Rattle.roots.specs.Limits.{mostCoefficients, mostRoots}
-use Rattle.roots.specs.Calls.{wrongCount, allZero, equationTests, refusedAnswer, solved, solveAnswer}
+use Rattle.roots.specs.Calls.{allZero, equationTests, refusedAnswer, solved, solveAnswer}
 use Rattle.roots.specs.Equation.{IsDegree}
 use Rattle.roots.proofs.Zeros.{large-pad, zero-test-pad, solved-pad}
 use Rattle.roots.proofs.Tests.{Passed, equation-passed}
 use Rattle.roots.proofs.Degree.{has-degree, total-at-most, roots-at-most}
-
--- one to five coefficients are no wrong count
-pub right-count : (n : ℕ) → 0 < n → n ≤ mostCoefficients → wrongCount n ≡ false
-unfolding wrongCount
-right-count zero h l = absurd (omega arith)
-right-count (suc n) h l = rw (eqb·suc-zero n) (le-ltb mostCoefficients (suc n) l)
 
 -- a call that is not turned down answers by its value alone
 pub same-answer : {A : Type 0} (r : ℕ) (refused : ℕ → A) (v w : A) → (r ≡ 0 → v ≡ w) → answerBy r refused v ≡ answerBy r refused w
@@ -44,16 +37,16 @@ module _ (p : ℕ) (cs : List ℕ) (n : ℕ) (some : 0 < length cs) (few : lengt
   abbrev more : List ℕ
   more = cs ++ replicate n 0
 
-  same-count : wrongCount (length more) ≡ wrongCount (length cs)
+  same-count : wrongCount mostCoefficients (length more) ≡ wrongCount mostCoefficients (length cs)
   same-count =
       let e = length-append cs (replicate n 0) in
-      right-count (length more) (omega arith) few ∙ sym (right-count (length cs) some (omega arith))
+      count-right mostCoefficients (length more) (omega arith) few ∙ sym (count-right mostCoefficients (length cs) some (omega arith))
 
   same-tests : equationTests p more ≡ equationTests p cs
   same-tests =
       ap (λ (b : Bool). polynomialTests p ++ b ⇒ 3 ∷ anyTooLarge p more ⇒ 4 ∷ allZero more ⇒ 5 ∷ []) same-count
-      ∙ ap (λ (b : Bool). polynomialTests p ++ wrongCount (length cs) ⇒ 3 ∷ b ⇒ 4 ∷ allZero more ⇒ 5 ∷ []) (large-pad p cs n)
-      ∙ ap (λ (b : Bool). polynomialTests p ++ wrongCount (length cs) ⇒ 3 ∷ anyTooLarge p cs ⇒ 4 ∷ b ⇒ 5 ∷ []) (zero-test-pad cs n)
+      ∙ ap (λ (b : Bool). polynomialTests p ++ wrongCount mostCoefficients (length cs) ⇒ 3 ∷ b ⇒ 4 ∷ allZero more ⇒ 5 ∷ []) (large-pad p cs n)
+      ∙ ap (λ (b : Bool). polynomialTests p ++ wrongCount mostCoefficients (length cs) ⇒ 3 ∷ anyTooLarge p cs ⇒ 4 ∷ b ⇒ 5 ∷ []) (zero-test-pad cs n)
 
   pub zeros-above : solveAnswer p more ≡ solveAnswer p cs
   zeros-above =

@@ -1,6 +1,6 @@
 -- What each public call says, for every input: its tests in the order of the table of numbers, and its value (01, "Equations of degree up
 -- to 4"). Assumes nothing.
-use mathlib.Core.Bool.{Bool, true, false, _||_}
+use mathlib.Core.Bool.{Bool}
 use mathlib.Core.List.{List, [], _∷_, _++_, map}
 use Prim.Native.Nat.{ℕ}
 use lib.Dec.{eqb, ltb}
@@ -11,20 +11,16 @@ use Rattle.binary.specs.Factor.{degreeOf}
 use Rattle.galois.specs.Polynomial.{build}
 use Rattle.galois.specs.Roots.{rootsOf}
 use Rattle.galois.specs.Multiplicity.{multiplicity}
-use Rattle.field.specs.Refusal.{Test, _⇒_, refusal, Outcome, turnedDown, gives, answerBy, anyTooLarge, polynomialTests}
+use Rattle.field.specs.Refusal.{Test, _⇒_, refusal, Outcome, turnedDown, gives, answerBy, polynomialTests, wrongCount, listTests}
 use Rattle.roots.specs.Limits.{mostCoefficients, mostRoots}
-
--- 3: "coefficient count 0 or above 5"
-unfoldable pub wrongCount : ℕ → Bool
-wrongCount n = eqb n 0 || ltb mostCoefficients n
 
 -- 5: "degree-4 call with every coefficient 0"
 unfoldable pub allZero : List ℕ → Bool
 allZero cs = everyBelow (λ i. eqb (getD cs i 0) 0) (length cs)
 
--- with 4 between: "an element or coefficient is 2^m or more"
+-- before it 3: "coefficient count 0 or above 5", and 4: "an element or coefficient is 2^m or more"
 abbrev pub equationTests : ℕ → List ℕ → List Test
-equationTests p cs = polynomialTests p ++ wrongCount (length cs) ⇒ 3 ∷ anyTooLarge p cs ⇒ 4 ∷ allZero cs ⇒ 5 ∷ []
+equationTests p cs = polynomialTests p ++ listTests p (wrongCount mostCoefficients (length cs)) cs ++ allZero cs ⇒ 5 ∷ []
 
 -- "the answer says turned down with its number, or solved with its count 0 to 4. Beside it stand four places for roots and four for
 -- multiplicities"
@@ -51,7 +47,7 @@ solveAnswer p cs = answerBy (refusal (equationTests p cs)) refusedAnswer (solved
 
 -- 3: "more than 4 roots to build from", then 4
 abbrev pub buildTests : ℕ → List ℕ → List Test
-buildTests p rs = polynomialTests p ++ ltb mostRoots (length rs) ⇒ 3 ∷ anyTooLarge p rs ⇒ 4 ∷ []
+buildTests p rs = polynomialTests p ++ listTests p (ltb mostRoots (length rs)) rs
 
 -- turned down with its number, or built; and the five coefficients
 pub record Built : Type 0 where

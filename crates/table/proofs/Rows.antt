@@ -20,10 +20,9 @@ use Rattle.linear.specs.Solution.{placed}
 use Rattle.arithmetic.specs.Quotient.{quotientOf}
 use Rattle.arithmetic.specs.Power.{powerOf}
 use Rattle.arithmetic.specs.Number.{numbered, numberOf}
-use Rattle.field.specs.Refusal.{outOfRange, hasFactor, tooLarge, anyTooLarge}
+use Rattle.field.specs.Refusal.{outOfRange, hasFactor, tooLarge, anyTooLarge, wrongCount}
 use Rattle.affine.specs.Equation as affine
-use Rattle.affine.specs.Calls as affineCalls
-use Rattle.roots.specs.Calls.{wrongCount, allZero}
+use Rattle.roots.specs.Calls.{allZero}
 use Rattle.table.specs.Rows.{answerOf, starredRows}
 
 pub fourteen-rows : length starredRows ≡ 14
@@ -31,5 +30,5 @@ unfolding starredRows
 fourteen-rows = refl
 
 pub starred-rows-hold : map (λ r. answerOf (r .call)) starredRows ≡ map (λ r. r .result) starredRows
-unfolding starredRows wrongCount allZero isRoot rootsOf value sums withoutRoot multiplicityUpTo multiplicity affineCalls.wrongCount affine.isRoot affine.isDirection affine.baseOf affine.directionsOf placed smallestAt inFront directionsFrom linearAt affineAt outOfRange hasFactor tooLarge anyTooLarge someBelow degreeOf factorFree everyBelow first firstFrom quotientOf powerOf numberOf numbered power squares partTrace product times timesStep remainder remainderBy remainderStep reduce top topStep fold foldF _⊕_
+unfolding starredRows wrongCount allZero isRoot rootsOf value sums withoutRoot multiplicityUpTo multiplicity affine.isRoot affine.isDirection affine.baseOf affine.directionsOf placed smallestAt inFront directionsFrom linearAt affineAt outOfRange hasFactor tooLarge anyTooLarge someBelow degreeOf factorFree everyBelow first firstFrom quotientOf powerOf numberOf numbered power squares partTrace product times timesStep remainder remainderBy remainderStep reduce top topStep fold foldF _⊕_
 starred-rows-hold = refl

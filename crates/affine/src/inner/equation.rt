@@ -1,29 +1,17 @@
 // An equation's tests, and its solution by elimination.
 ghost use mathlib.Core.Path.{_≡_};
 ghost use Rattle.binary.specs.Factor.{degreeOf};
-ghost use Rattle.field.specs.Accepted.{Accepted};
 ghost use Rattle.field.specs.Refusal.{refusal};
 ghost use Rattle.affine.specs.Equation.{Ready, solutionOf};
-ghost use Rattle.affine.specs.Calls.{wrongCount, equationTests};
+ghost use Rattle.affine.specs.Calls.{equationTests};
 use crate::inner::columns::columns_of;
-use field::inner::refusal::any_too_large;
 use field::inner::refusal::degree_of;
+use field::inner::refusal::of_list;
 use field::inner::refusal::of_polynomial;
-use field::refused;
+use field::inner::refusal::wrong_count;
 use linear::inner::solution::Solution;
 use linear::inner::solution::solved;
 use linear::inner::system::rows_of;
-
-// Whether there are no coefficients, or more than m + 1.
-fn wrong_count(p: u32, count: usize) -> bool
-    requires { ⌜ Accepted p ⌝ }
-    ensures { λ r. ⌜ r ≡ wrongCount p count ⌝ }
-{
-    if count == 0 {
-        return true;
-    }
-    ((degree_of(p) + 1) as usize) < count
-}
 
 // The number that the polynomial or the coefficients are turned down by; 0 where none applies.
 pub fn refusal(p: u32, coefficients: &[u32]) -> u32
@@ -33,13 +21,8 @@ pub fn refusal(p: u32, coefficients: &[u32]) -> u32
     if refused != 0 {
         return refused;
     }
-    if wrong_count(p, coefficients.len()) {
-        return refused::WRONG_COUNT;
-    }
-    if any_too_large(p, coefficients) {
-        return refused::TOO_LARGE;
-    }
-    0
+    let most = (degree_of(p) + 1) as usize;
+    of_list(p, wrong_count(most, coefficients.len()), coefficients)
 }
 
 // The roots of an equation that has passed: its matrix by columns, and the elimination.

@@ -6,7 +6,7 @@ ghost use lib.IntN.{pos};
 ghost use lib.Signed.{ltZ};
 ghost use Rattle.binary.specs.Factor.{degreeOf};
 ghost use Rattle.field.specs.Accepted.{Accepted};
-ghost use Rattle.field.specs.Refusal.{refusal, tooLarge, anyTooLarge, polynomialTests, elementTests, elementsTests};
+ghost use Rattle.field.specs.Refusal.{refusal, tooLarge, anyTooLarge, wrongCount, polynomialTests, listTests, elementTests, elementsTests};
 use crate::limits::POLYNOMIAL_CEILING;
 use crate::limits::POLYNOMIAL_FLOOR;
 use crate::refused;
@@ -46,8 +46,18 @@ fn too_large(p: u32, a: u32) -> bool
     power_of_two(degree_of(p)) <= a
 }
 
+// Whether there are no coefficients, or more than there may be.
+pub fn wrong_count(most: usize, count: usize) -> bool
+    ensures { λ r. ⌜ r ≡ wrongCount most count ⌝ }
+{
+    if count == 0 {
+        return true;
+    }
+    most < count
+}
+
 // Whether one of the coefficients is no element of the field.
-pub fn any_too_large(p: u32, coefficients: &[u32]) -> bool
+fn any_too_large(p: u32, coefficients: &[u32]) -> bool
     requires { ⌜ Accepted p ⌝ }
     ensures { λ r. ⌜ r ≡ anyTooLarge p (now (coefficients .entry)) ⌝ }
 {
@@ -57,6 +67,20 @@ pub fn any_too_large(p: u32, coefficients: &[u32]) -> bool
         }
     }
     false
+}
+
+// The number that a list of coefficients is turned down by: their count is wrong, or one of them is no element.
+pub fn of_list(p: u32, wrong: bool, coefficients: &[u32]) -> u32
+    requires { ⌜ Accepted p ⌝ }
+    ensures { λ r. ⌜ r ≡ refusal (listTests p wrong (now (coefficients .entry))) ⌝ }
+{
+    if wrong {
+        return refused::WRONG_COUNT;
+    }
+    if any_too_large(p, coefficients) {
+        return refused::TOO_LARGE;
+    }
+    0
 }
 
 pub fn of_element(p: u32, a: u32) -> u32

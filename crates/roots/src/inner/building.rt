@@ -11,9 +11,8 @@ ghost use Rattle.roots.specs.Calls.{buildTests};
 use crate::inner::polynomial::with_root;
 use crate::limits::MOST_COEFFICIENTS;
 use crate::limits::MOST_ROOTS;
-use field::inner::refusal::any_too_large;
+use field::inner::refusal::of_list;
 use field::inner::refusal::of_polynomial;
-use field::refused;
 
 // The number that the polynomial or the roots are turned down by; 0 where none applies.
 pub fn refusal(p: u32, roots: &[u32]) -> u32
@@ -23,13 +22,7 @@ pub fn refusal(p: u32, roots: &[u32]) -> u32
     if refused != 0 {
         return refused;
     }
-    if MOST_ROOTS < roots.len() {
-        return refused::WRONG_COUNT;
-    }
-    if any_too_large(p, roots) {
-        return refused::TOO_LARGE;
-    }
-    0
+    of_list(p, MOST_ROOTS < roots.len(), roots)
 }
 
 // From the last root to the first, beginning with 1.

@@ -5,21 +5,12 @@ ghost use lib.ListN.{length};
 ghost use Rattle.algebra.specs.Lists.{padded};
 ghost use Rattle.field.specs.Refusal.{refusal};
 ghost use Rattle.roots.specs.Limits.{mostCoefficients};
-ghost use Rattle.roots.specs.Calls.{wrongCount, allZero, equationTests};
+ghost use Rattle.roots.specs.Calls.{allZero, equationTests};
 use crate::limits::MOST_COEFFICIENTS;
-use field::inner::refusal::any_too_large;
+use field::inner::refusal::of_list;
 use field::inner::refusal::of_polynomial;
+use field::inner::refusal::wrong_count;
 use field::refused;
-
-// Whether there are no coefficients, or more than five.
-fn wrong_count(count: usize) -> bool
-    ensures { λ r. ⌜ r ≡ wrongCount count ⌝ }
-{
-    if count == 0 {
-        return true;
-    }
-    MOST_COEFFICIENTS < count
-}
 
 fn all_zero(coefficients: &[u32]) -> bool
     ensures { λ r. ⌜ r ≡ allZero (now (coefficients .entry)) ⌝ }
@@ -40,11 +31,13 @@ pub fn refusal(p: u32, coefficients: &[u32]) -> u32
     if refused != 0 {
         return refused;
     }
-    if wrong_count(coefficients.len()) {
-        return refused::WRONG_COUNT;
-    }
-    if any_too_large(p, coefficients) {
-        return refused::TOO_LARGE;
+    let refused = of_list(
+        p,
+        wrong_count(MOST_COEFFICIENTS, coefficients.len()),
+        coefficients,
+    );
+    if refused != 0 {
+        return refused;
     }
     if all_zero(coefficients) {
         return refused::ALL_ZERO;

@@ -1,7 +1,5 @@
 -- `space` meets its contract. Assumes nothing.
 use mathlib.Core.Path.{sym, ap, _∙_, subst}
-use mathlib.Core.List.{List}
-use Prim.Native.Nat.{ℕ}
 use Rattle.binary.specs.Factor.{degreeOf}
 use Rattle.affine.specs.Equation.{Ready, solutionOf}
 use Rattle.roots.proofs.Folding.{folded-short, folded-long, folded-ready}

@@ -1,6 +1,5 @@
 -- `multiplicities` meets its contract. Assumes nothing.
-use native.Mathlib.Omega.{arith}
-use Rattle.roots.proofs.Multiples.{count-few, ones-are}
+use Rattle.roots.proofs.Multiples.{ones-are}
 use borrow.Author.Needs.{needs}
 use Rattle.roots.proofs.inner.multiplicity.multiplicities.Statement.{statement}
 use Rattle.roots.proofs.inner.multiplicity.multiplicities.Tie as tie

@@ -14,12 +14,12 @@ use Rattle.binary.proofs.Xor.{xor-self, ac}
 use Rattle.binary.specs.Product.{product}
 use Rattle.binary.proofs.Product.{product-comm, one-product}
 use Rattle.binary.proofs.Inverse.{product-cancel}
 use Rattle.galois.specs.Field.{Field}
 use Rattle.galois.specs.Quadratic.{Quadratic}
 use Rattle.galois.proofs.Field.{one-lt, ring}
 use Rattle.galois.proofs.Power.{zero-product, mul-lt}
 use Rattle.galois.proofs.Quadratic.{quadratic-root, quadratic-other, quadratic-only}
-use Rattle.roots.proofs.CubeRoots.{cube, CubeRoots, part-of-one, ratio}
+use Rattle.galois.proofs.CubeRoots.{cube, CubeRoots, part-of-one, ratio}
 
 module _ (m p : ℕ) (F : Field m p) where
   -- beside a root y that is not 0 stand w·y and (w + 1)·y, with w² + w = 1

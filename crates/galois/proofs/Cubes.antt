@@ -1,25 +1,43 @@
--- A cubic with B = A² has the roots of (x + A)³ = C + A³ (01, "Where the papers lead astray"): one root where m is odd (`one-when-odd`);
+-- A cubic with B = A² has the roots of (x + A)³ = C + A³ (`cube-form`; 01, "Where the papers lead astray"): one root where m is odd (`one-when-odd`);
 -- for that value not 0, three different ones or none where m is even (`three-or-none-when-even`). Assumes nothing.
 use mathlib.Core.Path.{_≡_, refl, sym, ap, _∙_, subst}
-use mathlib.Core.Logic.{_≢_, _⊎_, inl, inr}
+use mathlib.Core.Logic.{_≢_, _⊎_, inl, inr, _↔_}
 use mathlib.Core.List.{List, [], _∷_, map}
 use Prim.Native.Nat.{ℕ, _%_, _^_, _<_}
 use native.Mathlib.Omega.{arith}
 use lib.ListN.{length, length-map}
+use Rattle.algebra.specs.Expression.{var, O, I, _⊕_ as _∔_, _⊗_}
+use Rattle.algebra.proofs.Identity.{ring-on}
 use Rattle.algebra.specs.Lists.{Member}
 use Rattle.algebra.proofs.Members.{no-longer}
 use Rattle.algebra.proofs.Onto.{of-map, to-map, map-nodup}
 use Rattle.algebra.proofs.Ascending.{ascending-nodup}
 use Rattle.binary.specs.Xor.{_⊕_}
-use Rattle.binary.proofs.Xor.{xor-lt, ac}
+use Rattle.binary.proofs.Xor.{xor-lt, xor-self, equal-of-xor, ac}
 use Rattle.binary.specs.Product.{product}
 use Rattle.galois.specs.Field.{Field}
+use Rattle.galois.specs.Polynomial.{value}
 use Rattle.galois.specs.Roots.{rootsOf}
+use Rattle.galois.proofs.Field.{ring}
 use Rattle.galois.proofs.Power.{mul-lt}
 use Rattle.galois.proofs.RootList.{roots-iff, roots-ascending}
-use Rattle.roots.proofs.Slips.{cube-form}
-use Rattle.roots.proofs.CubeRoots.{cube, CubeRoots, odd-roots}
-use Rattle.roots.proofs.EvenCubes.{even-roots}
+use Rattle.galois.proofs.CubeRoots.{cube, CubeRoots, odd-roots}
+use Rattle.galois.proofs.EvenCubes.{even-roots}
+
+module _ (m p : ℕ) (F : Field m p) where
+  -- x³ + A·x² + A²·x + C is 0 exactly when (x + A)³ = C + A³
+  pub cube-form : (A C x : ℕ) → A < 2 ^ m → C < 2 ^ m → x < 2 ^ m
+      → (value p (C ∷ product p A A ∷ A ∷ 1 ∷ []) x ≡ 0) ↔ (product p (x ⊕ A) (product p (x ⊕ A) (x ⊕ A)) ≡ C ⊕ product p A (product p A A))
+  unfolding value
+  cube-form A C x hA hC hx =
+      let y = product p (x ⊕ A) (product p (x ⊕ A) (x ⊕ A)) in
+      let c = C ⊕ product p A (product p A A) in
+      let same : value p (C ∷ product p A A ∷ A ∷ 1 ∷ []) x ≡ y ⊕ c =
+      ring-on (ring m p F) ((A, hA) ∷ (C, hC) ∷ (x, hx) ∷ [])
+      (var 1 ∔ var 2 ⊗ (var 0 ⊗ var 0 ∔ var 2 ⊗ (var 0 ∔ var 2 ⊗ (I ∔ var 2 ⊗ O))))
+      ((var 2 ∔ var 0) ⊗ ((var 2 ∔ var 0) ⊗ (var 2 ∔ var 0)) ∔ (var 1 ∔ var 0 ⊗ (var 0 ⊗ var 0)))
+      refl in
+      (λ e. equal-of-xor y c (sym same ∙ e), λ e. same ∙ ap (λ (v : ℕ). v ⊕ c) e ∙ xor-self c)
 
 -- x³ + A·x² + A²·x + C
 module _ (m p : ℕ) (F : Field m p) (A C : ℕ) (hA : A < 2 ^ m) (hC : C < 2 ^ m) where

@@ -1,10 +1,9 @@
 -- `wrong_count` meets its contract. Assumes nothing.
 use mathlib.Core.Path.{sym}
 use borrow.Author.Tests.{eq-eqb, ne-eqb}
-use Rattle.roots.specs.Calls.{wrongCount}
-use borrow.Author.Needs.{needs}
-use Rattle.roots.proofs.inner.equation.wrong_count.Statement.{statement}
-use Rattle.roots.proofs.inner.equation.wrong_count.Tie as tie
+use Rattle.field.specs.Refusal.{wrongCount}
+use Rattle.field.proofs.inner.refusal.wrong_count.Statement.{statement}
+use Rattle.field.proofs.inner.refusal.wrong_count.Tie as tie
 
 returns : tie.Need-returns
 unfolding wrongCount
