@@ -93,3 +93,12 @@ solved-pad m p F f n z =
     ap (solved p (f ++ replicate n 0)) (roots-pad m p f n)
     ∙ ap (λ (ks : List ℕ). record { says = gives (length rs); roots = padded mostRoots rs; multiplicities = padded mostRoots ks })
     (map-alike (λ r. multiplicity p r (f ++ replicate n 0)) (λ r. multiplicity p r f) rs (λ r k. multiplicity-pad m p F r n f z))
+
+-- 4 and 5 never meet: a coefficient that is too large is not 0
+pub large-not-zero : (p : ℕ) (f : List ℕ) → anyTooLarge p f ≡ true → allZero f ≡ false
+large-not-zero p f e =
+    nonzero-passes f (λ z. false≢true (sym (coefficients-pass p f (zero-coeffs (degreeOf p) f z)) ∙ e))
+  where
+    zero-coeffs : (m : ℕ) (g : List ℕ) → AllZero g → Coeffs m g
+    zero-coeffs m [] z = tt
+    zero-coeffs m (c ∷ g) z = (rw (z .0) (pow-pos m), zero-coeffs m g (z .1))
