@@ -8,8 +8,8 @@ use lib.Seq.{take-all}
 use Rattle.binary.specs.Factor.{degreeOf}
 use Rattle.galois.specs.Polynomial.{Coeffs}
 use Rattle.field.specs.Accepted.{Accepted}
-use Rattle.field.specs.Refusal.{Test, _⇒_, refusal, anyTooLarge, polynomialTests}
-use Rattle.field.proofs.Refusal.{then-kept, then-applies, then-passes, passes, accepted}
+use Rattle.field.specs.Refusal.{Test, refusal}
+use Rattle.field.proofs.Refusal.{passes, accepted}
 use Rattle.field.proofs.Coefficients.{count-some, count-few, coefficients-small}
 use Rattle.affine.specs.Equation.{Ready}
 use Rattle.affine.specs.Calls.{equationTests}

@@ -7,6 +7,7 @@ use native.Mathlib.Omega.{arith}
 use lib.Bits.{bitXor}
 use lib.ListN.{length, getD, set, take, drop, length-set}
 use lib.Seq.{drop-cons, drop-set-lt, getD-drop, drop-length}
+use Rattle.algebra.proofs.Places.{put-next, put-last, put-before}
 use Rattle.binary.specs.Xor.{_⊕_}
 use Rattle.binary.proofs.Xor.{xor-zero, is-xor}
 use Rattle.binary.specs.Product.{product}
@@ -14,7 +15,6 @@ use Rattle.binary.proofs.Product.{product-zero}
 use Rattle.galois.specs.Field.{Field}
 use Rattle.galois.specs.Polynomial.{value, Coeffs, sums, shifted, withRoot}
 use Rattle.galois.proofs.Polynomial.{value-lt}
-use Rattle.algebra.proofs.Places.{put-next, put-last, put-before}
 
 -- the first of the values at r is that of the whole
 pub sums-head : (p r : ℕ) (f : List ℕ) → getD (sums p r f) 0 0 ≡ value p f r

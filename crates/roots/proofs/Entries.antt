@@ -3,6 +3,7 @@ use mathlib.Core.Path.{_≡_, refl, _∙_}
 use mathlib.Core.List.{List, [], _∷_}
 use Prim.Native.Nat.{ℕ}
 use native.Mathlib.Omega.{arith}
+use lib.Bits.{bitOr, or-add-and, and-le-l, and-le-r}
 use lib.ListN.{length, getD}
 use Rattle.roots.specs.Equation.{quarticOf}
 
@@ -15,6 +16,14 @@ five-entries (a ∷ b ∷ c ∷ d ∷ []) h = absurd (omega arith)
 five-entries (a ∷ b ∷ c ∷ d ∷ e ∷ []) h = refl
 five-entries (a ∷ b ∷ c ∷ d ∷ e ∷ f ∷ l) h = absurd (omega arith)
 
+-- two numbers without a bit between them
+no-bits : (a b : ℕ) → bitOr a b ≡ 0 → (a ≡ 0) × (b ≡ 0)
+no-bits a b e =
+    let s = or-add-and a b in
+    let l = and-le-l a b in
+    let r = and-le-r a b in
+    (omega arith, omega arith)
+
 -- the entries of an equation by its kind
 module _ (f : List ℕ) (h : length f ≡ 5) where
   pub as-cubic : getD f 4 0 ≡ 0 → f ≡ getD f 0 0 ∷ getD f 1 0 ∷ getD f 2 0 ∷ getD f 3 0 ∷ 0 ∷ []
@@ -23,8 +32,10 @@ module _ (f : List ℕ) (h : length f ≡ 5) where
   pub as-affine : getD f 3 0 ≡ 0 → f ≡ quarticOf (getD f 0 0) (getD f 1 0) (getD f 2 0) (getD f 4 0)
   as-affine e = five-entries f h ∙ (λ i. getD f 0 0 ∷ getD f 1 0 ∷ getD f 2 0 ∷ e i ∷ getD f 4 0 ∷ [])
 
-  pub as-linear : getD f 2 0 ≡ 0 → getD f 3 0 ≡ 0 → getD f 4 0 ≡ 0 → f ≡ getD f 0 0 ∷ getD f 1 0 ∷ 0 ∷ 0 ∷ 0 ∷ []
-  as-linear a b c = five-entries f h ∙ (λ i. getD f 0 0 ∷ getD f 1 0 ∷ a i ∷ b i ∷ c i ∷ [])
+  pub as-linear : bitOr (getD f 2 0) (getD f 4 0) ≡ 0 → getD f 3 0 ≡ 0 → f ≡ getD f 0 0 ∷ getD f 1 0 ∷ 0 ∷ 0 ∷ 0 ∷ []
+  as-linear e b =
+      let both = no-bits (getD f 2 0) (getD f 4 0) e in
+      five-entries f h ∙ (λ i. getD f 0 0 ∷ getD f 1 0 ∷ both .0 i ∷ b i ∷ both .1 i ∷ [])
 
-  pub as-constant : getD f 1 0 ≡ 0 → getD f 2 0 ≡ 0 → getD f 3 0 ≡ 0 → getD f 4 0 ≡ 0 → f ≡ getD f 0 0 ∷ 0 ∷ 0 ∷ 0 ∷ 0 ∷ []
-  as-constant o a b c = five-entries f h ∙ (λ i. getD f 0 0 ∷ o i ∷ a i ∷ b i ∷ c i ∷ [])
+  pub as-constant : getD f 1 0 ≡ 0 → bitOr (getD f 2 0) (getD f 4 0) ≡ 0 → getD f 3 0 ≡ 0 → f ≡ getD f 0 0 ∷ 0 ∷ 0 ∷ 0 ∷ 0 ∷ []
+  as-constant o e b = as-linear e b ∙ (λ i. getD f 0 0 ∷ o i ∷ 0 ∷ 0 ∷ 0 ∷ [])

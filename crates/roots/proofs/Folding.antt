@@ -18,6 +18,7 @@ use Rattle.binary.specs.Product.{product}
 use Rattle.binary.proofs.Product.{xor-product}
 use Rattle.binary.specs.Factor.{degreeOf}
 use Rattle.binary.proofs.Factor.{degree-is}
+use Rattle.linear.specs.Limits.{places}
 use Rattle.galois.specs.Field.{Field}
 use Rattle.galois.specs.Power.{squares}
 use Rattle.galois.specs.Polynomial.{value, Coeffs}
@@ -26,7 +27,6 @@ use Rattle.galois.specs.Affine.{linearAt, affineAt}
 use Rattle.galois.proofs.Fermat.{squares-all}
 use Rattle.galois.proofs.AffineList.{linearTail, spread, gap, affine-value}
 use Rattle.arithmetic.specs.Modulus.{FieldModulus}
-use Rattle.linear.specs.Limits.{places}
 use Rattle.affine.specs.Equation as affine
 use Rattle.roots.specs.Equation.{quarticOf, foldedIf, folded}
 

@@ -13,12 +13,12 @@ use Rattle.binary.specs.Xor.{_⊕_}
 use Rattle.binary.proofs.Xor.{is-xor, xor-zero, xor-assoc}
 use Rattle.binary.specs.Factor.{degreeOf}
 use Rattle.binary.proofs.Factor.{degree-is}
-use Rattle.galois.specs.Roots.{rootsOf}
-use Rattle.galois.proofs.RootList.{roots-few}
 use Rattle.linear.specs.Limits.{places}
 use Rattle.linear.specs.Directions.{choose}
 use Rattle.linear.proofs.Choose.{choose-zero, choose-one, choose-two, choose-three}
 use Rattle.linear.specs.declared.inner.solution.Solution.{Solution}
+use Rattle.galois.specs.Roots.{rootsOf}
+use Rattle.galois.proofs.RootList.{roots-few}
 use Rattle.affine.specs.Equation.{allRoots, solutionOf}
 use Rattle.affine.specs.Equation as affine
 use Rattle.affine.specs.Answers.{rootCount}

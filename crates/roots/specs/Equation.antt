@@ -8,11 +8,11 @@ use lib.Dec.{eqb}
 use lib.ListN.{length, getD}
 use Rattle.algebra.specs.Lists.{Member, Nodup}
 use Rattle.binary.specs.Xor.{_⊕_}
+use Rattle.linear.specs.Limits.{places}
 use Rattle.galois.specs.Power.{power}
 use Rattle.galois.specs.Polynomial.{Coeffs, AllZero, Root}
 use Rattle.arithmetic.specs.Modulus.{FieldModulus}
 use Rattle.arithmetic.specs.Quotient.{quotientOf}
-use Rattle.linear.specs.Limits.{places}
 
 -- the field, and coefficients in it, not all 0
 pub record Ready (m p : ℕ) (f : List ℕ) : Type 0 where

@@ -2,13 +2,13 @@
 use mathlib.Core.Path.{sym, ap, _∙_, subst}
 use mathlib.Core.List.{List}
 use Prim.Native.Nat.{ℕ}
+use borrow.Author.Needs.{needs}
 use Rattle.galois.specs.Polynomial.{Coeffs}
 use Rattle.field.specs.Refusal.{gives}
 use Rattle.field.proofs.Ready.{ready}
 use Rattle.field.proofs.Refusal.{refused-by, answered-by}
 use Rattle.roots.specs.Calls.{buildTests, refusedBuilt}
 use Rattle.roots.proofs.Tests.{build-passed}
-use borrow.Author.Needs.{needs}
 use Rattle.roots.proofs.build.Statement.{statement}
 use Rattle.roots.proofs.build.Tie as tie
 

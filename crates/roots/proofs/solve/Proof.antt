@@ -1,11 +1,11 @@
 -- `solve` meets its contract. Assumes nothing.
 use mathlib.Core.Path.{sym, _∙_}
+use borrow.Author.Needs.{needs}
 use Rattle.field.proofs.Refusal.{refused-by}
 use Rattle.roots.specs.Calls.{equationTests, refusedAnswer}
 use Rattle.roots.proofs.Tests.{equation-passed}
 use Rattle.roots.proofs.Multiples.{count-few}
 use Rattle.roots.proofs.Solving.{solve-ready, solve-answer}
-use borrow.Author.Needs.{needs}
 use Rattle.roots.proofs.solve.Statement.{statement}
 use Rattle.roots.proofs.solve.Tie as tie
 

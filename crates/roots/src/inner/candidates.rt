@@ -119,7 +119,7 @@ fn of_quartic(p: u32, m: u32, f: [u32; MOST_COEFFICIENTS]) -> Candidates
     moved_back(p, m, s, ys)
 }
 
-// By the highest coefficients: a quartic; an equation that is affine as it stands, of degree 4 or 2; a cubic; degree 1; a constant.
+// With a term in x^3: a quartic or a cubic. Without one: an equation that is affine as it stands, of degree 4 or 2; degree 1; a constant.
 pub fn candidates_of(p: u32, m: u32, f: [u32; MOST_COEFFICIENTS]) -> Candidates
     requires { ⌜ Ready m p f ⌝ }
     ensures { λ r. ⌜ IsCandidates m p f r ⌝ }
@@ -130,10 +130,7 @@ pub fn candidates_of(p: u32, m: u32, f: [u32; MOST_COEFFICIENTS]) -> Candidates
         }
         return of_cubic(p, m, f[0], f[1], f[2], f[3]);
     }
-    if f[4] != 0 {
-        return solutions(p, m, f[0], f[1], f[2], f[4]);
-    }
-    if f[2] != 0 {
+    if f[2] | f[4] != 0 {
         return solutions(p, m, f[0], f[1], f[2], f[4]);
     }
     if f[1] != 0 {

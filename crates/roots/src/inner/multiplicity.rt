@@ -23,7 +23,7 @@ fn quotient(sums: [u32; MOST_COEFFICIENTS]) -> [u32; MOST_COEFFICIENTS]
     [sums[1], sums[2], sums[3], sums[4], 0]
 }
 
-pub fn multiplicity(p: u32, m: u32, f: [u32; MOST_COEFFICIENTS], r: u32) -> u32
+fn multiplicity(p: u32, m: u32, f: [u32; MOST_COEFFICIENTS], r: u32) -> u32
     requires { ⌜ FieldModulus m p × Coeffs m f × (r < 2 ^ m) ⌝ }
     ensures { λ k. ⌜ k ≡ multiplicity p r f ⌝ }
 {

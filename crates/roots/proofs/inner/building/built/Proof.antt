@@ -1,8 +1,8 @@
 -- `built` meets its contract: the roots from place i on are in. Assumes nothing.
 use native.Mathlib.Omega.{arith}
+use borrow.Author.Needs.{needs}
 use Rattle.galois.proofs.Polynomial.{coeff-at}
 use Rattle.roots.proofs.FromRoots.{Built, building-start, building-small, building-next, building-end}
-use borrow.Author.Needs.{needs}
 use Rattle.roots.proofs.inner.building.built.Statement.{statement}
 use Rattle.roots.proofs.inner.building.built.Tie as tie
 

@@ -1,11 +1,11 @@
 -- `refusal` meets its contract. Assumes nothing.
 use mathlib.Core.Path.{sym, _∙_}
+use borrow.Author.Needs.{needs}
 use lib.Dec.{ltb}
 use lib.ListN.{length}
 use Rattle.field.specs.Refusal.{polynomialTests, listTests}
 use Rattle.field.proofs.Refusal.{then-kept, then-say, accepted}
 use Rattle.roots.specs.Limits.{mostRoots}
-use borrow.Author.Needs.{needs}
 use Rattle.roots.proofs.inner.building.refusal.Statement.{statement}
 use Rattle.roots.proofs.inner.building.refusal.Tie as tie
 

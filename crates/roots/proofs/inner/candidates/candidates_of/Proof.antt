@@ -1,8 +1,10 @@
 -- `candidates_of` meets its contract. Assumes nothing.
 use mathlib.Core.Path.{refl}
+use borrow.Author.Needs.{needs}
+use lib.ListN.{getD}
+use Rattle.roots.specs.Equation.{quarticOf}
 use Rattle.roots.proofs.Entries.{as-cubic, as-affine, as-linear, as-constant}
 use Rattle.roots.proofs.Completing.{ready-as, candidates-as, affine-candidates, constant-candidates}
-use borrow.Author.Needs.{needs}
 use Rattle.roots.proofs.inner.candidates.candidates_of.Statement.{statement}
 use Rattle.roots.proofs.inner.candidates.candidates_of.Tie as tie
 
@@ -43,6 +45,9 @@ returns-2 c =
 array-read-if3 : tie.Need-array-read-if3
 array-read-if3 c = search needs
 
+array-read-if3-2 : tie.Need-array-read-if3-2
+array-read-if3-2 c = search needs
+
 array-read-solutions : tie.Need-array-read-solutions
 array-read-solutions c = search needs
 
@@ -63,35 +68,11 @@ solutions-requires c κs =
 returns-3 : tie.Need-returns-3
 returns-3 c =
     let f = c .before .before .before .args .t3 in
-    candidates-as _ _ f _ _ (as-affine f (search needs) (c .before .before .if1 .left)) (affine-candidates _ _ _ _ (c .solutions .ensures))
+    candidates-as _ _ f (quarticOf (getD f 0 0) (getD f 1 0) (getD f 2 0) (getD f 4 0)) _ (as-affine f (search needs) (c .before .before .if1 .left))
+    (affine-candidates _ _ _ _ (c .solutions .ensures))
 
 array-read-if4 : tie.Need-array-read-if4
 array-read-if4 c = search needs
-
-array-read-solutions-5 : tie.Need-array-read-solutions-5
-array-read-solutions-5 c = search needs
-
-array-read-solutions-6 : tie.Need-array-read-solutions-6
-array-read-solutions-6 c = search needs
-
-array-read-solutions-7 : tie.Need-array-read-solutions-7
-array-read-solutions-7 c = search needs
-
-array-read-solutions-8 : tie.Need-array-read-solutions-8
-array-read-solutions-8 c = search needs
-
-solutions-requires-2 : tie.Need-solutions-requires-2
-solutions-requires-2 c κs =
-    let f = c .before .before .before .args .t3 in
-    ready-as _ _ f _ (as-affine f (search needs) (c .before .before .if1 .left)) (c .before .before .before .pre)
-
-returns-4 : tie.Need-returns-4
-returns-4 c =
-    let f = c .before .before .before .before .args .t3 in
-    candidates-as _ _ f _ _ (as-affine f (search needs) (c .before .before .before .if1 .left)) (affine-candidates _ _ _ _ (c .solutions2 .ensures))
-
-array-read-if5 : tie.Need-array-read-if5
-array-read-if5 c = search needs
 
 array-read-of-linear : tie.Need-array-read-of-linear
 array-read-of-linear c = search needs
@@ -101,19 +82,19 @@ array-read-of-linear-2 c = search needs
 
 of-linear-requires : tie.Need-of-linear-requires
 of-linear-requires c κs =
+    let f = c .before .before .before .args .t3 in
+    (ready-as _ _ f _ (as-linear f (search needs) (c .before .if3 .left) (c .before .before .if1 .left)) (c .before .before .before .pre), c .if4 .taken)
+
+returns-4 : tie.Need-returns-4
+returns-4 c =
     let f = c .before .before .before .before .args .t3 in
-    (ready-as _ _ f _ (as-linear f (search needs) (c .before .if4 .left) (c .before .before .before .if1 .left) (c .before .before .if3 .left)) (c .before .before .before .before .pre), c .if5 .taken)
+    candidates-as _ _ f _ _ (as-linear f (search needs) (c .before .before .if3 .left) (c .before .before .before .if1 .left)) (c .of-linear .ensures)
 
 returns-5 : tie.Need-returns-5
 returns-5 c =
-    let f = c .before .before .before .before .before .args .t3 in
-    candidates-as _ _ f _ _ (as-linear f (search needs) (c .before .before .if4 .left) (c .before .before .before .before .if1 .left) (c .before .before .before .if3 .left)) (c .of-linear .ensures)
-
-returns-6 : tie.Need-returns-6
-returns-6 c =
-    let f = c .before .before .before .before .args .t3 in
-    let e = as-constant f (search needs) (c .if5 .left) (c .before .if4 .left) (c .before .before .before .if1 .left) (c .before .before .if3 .left) in
-    candidates-as _ _ f _ _ e (constant-candidates _ _ _ _ (ready-as _ _ f _ e (c .before .before .before .before .pre)) refl)
+    let f = c .before .before .before .args .t3 in
+    let e = as-constant f (search needs) (c .if4 .left) (c .before .if3 .left) (c .before .before .if1 .left) in
+    candidates-as _ _ f _ _ e (constant-candidates _ _ _ _ (ready-as _ _ f _ e (c .before .before .before .pre)) refl)
 
 pub candidates-of-spec : {M : Type 1} → statement M
 candidates-of-spec =
@@ -130,6 +111,7 @@ candidates-of-spec =
     of-cubic-requires
     returns-2
     array-read-if3
+    array-read-if3-2
     array-read-solutions
     array-read-solutions-2
     array-read-solutions-3
@@ -137,15 +119,8 @@ candidates-of-spec =
     solutions-requires
     returns-3
     array-read-if4
-    array-read-solutions-5
-    array-read-solutions-6
-    array-read-solutions-7
-    array-read-solutions-8
-    solutions-requires-2
-    returns-4
-    array-read-if5
     array-read-of-linear
     array-read-of-linear-2
     of-linear-requires
-    returns-5
-    returns-6)
+    returns-4
+    returns-5)

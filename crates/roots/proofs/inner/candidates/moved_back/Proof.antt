@@ -1,9 +1,9 @@
 -- `moved_back` meets its contract: the first i numbers are moved, the others still as they were. Assumes nothing.
 use Prim.Native.Nat.{_-_, _≤_}
 use native.Mathlib.Omega.{arith}
+use borrow.Author.Needs.{needs}
 use Rattle.algebra.proofs.Filled.{filled-none}
 use Rattle.roots.proofs.Moving.{Moved, inverse-ready, moved-next, moved-all}
-use borrow.Author.Needs.{needs}
 use Rattle.roots.proofs.inner.candidates.moved_back.Statement.{statement}
 use Rattle.roots.proofs.inner.candidates.moved_back.Tie as tie
 

@@ -1,6 +1,6 @@
 -- `of_cubic` meets its contract. Assumes nothing.
-use Rattle.roots.proofs.Completing.{made-ready, cubic-candidates}
 use borrow.Author.Needs.{needs}
+use Rattle.roots.proofs.Completing.{made-ready, cubic-candidates}
 use Rattle.roots.proofs.inner.candidates.of_cubic.Statement.{statement}
 use Rattle.roots.proofs.inner.candidates.of_cubic.Tie as tie
 

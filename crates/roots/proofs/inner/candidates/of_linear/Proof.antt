@@ -1,7 +1,7 @@
 -- `of_linear` meets its contract. Assumes nothing.
 use mathlib.Core.Path.{refl}
-use Rattle.roots.proofs.Completing.{linear-candidates}
 use borrow.Author.Needs.{needs}
+use Rattle.roots.proofs.Completing.{linear-candidates}
 use Rattle.roots.proofs.inner.candidates.of_linear.Statement.{statement}
 use Rattle.roots.proofs.inner.candidates.of_linear.Tie as tie
 

@@ -1,6 +1,6 @@
 -- `of_quartic` meets its contract. Assumes nothing.
-use Rattle.roots.proofs.Shifting.{quotient-ready, root-ready, shift-ready, shifted-ready, shifted-units, shifted-candidates}
 use borrow.Author.Needs.{needs}
+use Rattle.roots.proofs.Shifting.{quotient-ready, root-ready, shift-ready, shifted-ready, shifted-units, shifted-candidates}
 use Rattle.roots.proofs.inner.candidates.of_quartic.Statement.{statement}
 use Rattle.roots.proofs.inner.candidates.of_quartic.Tie as tie
 

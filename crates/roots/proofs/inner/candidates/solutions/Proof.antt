@@ -1,8 +1,8 @@
 -- `solutions` meets its contract. Assumes nothing.
-use Rattle.roots.proofs.Spaces.{space-fits, solutions-few, solutions-are}
 use mathlib.Core.Path.{refl}
 use native.Mathlib.Omega.{arith}
 use borrow.Author.Needs.{needs}
+use Rattle.roots.proofs.Spaces.{space-fits, solutions-few, solutions-are}
 use Rattle.roots.proofs.inner.candidates.solutions.Statement.{statement}
 use Rattle.roots.proofs.inner.candidates.solutions.Tie as tie
 

@@ -1,9 +1,9 @@
 -- `space` meets its contract. Assumes nothing.
 use mathlib.Core.Path.{sym, ap, _∙_, subst}
+use borrow.Author.Needs.{needs}
 use Rattle.binary.specs.Factor.{degreeOf}
 use Rattle.affine.specs.Equation.{Ready, solutionOf}
 use Rattle.roots.proofs.Folding.{folded-short, folded-long, folded-ready}
-use borrow.Author.Needs.{needs}
 use Rattle.roots.proofs.inner.candidates.space.Statement.{statement}
 use Rattle.roots.proofs.inner.candidates.space.Tie as tie
 

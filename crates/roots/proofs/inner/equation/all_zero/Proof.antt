@@ -5,11 +5,11 @@ use Prim.Native.Nat.{ℕ, _-_, _<_}
 use native.Mathlib.Omega.{arith}
 use borrow.Author.Count.{below-more}
 use borrow.Author.Tests.{eq-eqb, ne-eqb}
+use borrow.Author.Needs.{needs}
 use lib.Dec.{eqb}
 use lib.ListN.{getD}
 use Rattle.algebra.proofs.Search.{every-below, not-every-below}
 use Rattle.roots.specs.Calls.{allZero}
-use borrow.Author.Needs.{needs}
 use Rattle.roots.proofs.inner.equation.all_zero.Statement.{statement}
 use Rattle.roots.proofs.inner.equation.all_zero.Tie as tie
 

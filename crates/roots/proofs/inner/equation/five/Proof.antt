@@ -2,11 +2,11 @@
 use mathlib.Core.Path.{refl}
 use Prim.Native.Nat.{_-_, _≤_}
 use native.Mathlib.Omega.{arith}
+use borrow.Author.Needs.{needs}
 use lib.ListN.{length, getD, replicate}
 use Rattle.algebra.proofs.Filled.{Filled, filled-none, filled-put}
 use Rattle.algebra.proofs.Places.{filled-padded}
 use Rattle.roots.specs.Limits.{mostCoefficients}
-use borrow.Author.Needs.{needs}
 use Rattle.roots.proofs.inner.equation.five.Statement.{statement}
 use Rattle.roots.proofs.inner.equation.five.Tie as tie
 

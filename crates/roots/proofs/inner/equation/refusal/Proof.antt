@@ -1,13 +1,13 @@
 -- `refusal` meets its contract. Assumes nothing.
 use mathlib.Core.Path.{sym, _∙_}
 use mathlib.Core.List.{[], _∷_, _++_}
+use borrow.Author.Needs.{needs}
 use lib.ListN.{length}
 use Rattle.field.specs.Refusal.{_⇒_, polynomialTests, wrongCount, listTests}
 use Rattle.field.proofs.Refusal.{then-kept, accepted}
 use Rattle.roots.specs.Limits.{mostCoefficients}
 use Rattle.roots.specs.Calls.{allZero}
 use Rattle.roots.proofs.Tests.{list-applies, zero-applies, all-pass}
-use borrow.Author.Needs.{needs}
 use Rattle.roots.proofs.inner.equation.refusal.Statement.{statement}
 use Rattle.roots.proofs.inner.equation.refusal.Tie as tie
 

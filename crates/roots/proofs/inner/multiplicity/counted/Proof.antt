@@ -2,13 +2,13 @@
 use mathlib.Core.List.{map}
 use Prim.Native.Nat.{_-_, _≤_}
 use native.Mathlib.Omega.{arith}
+use borrow.Author.Needs.{needs}
 use lib.ListN.{getD, replicate}
+use Rattle.algebra.proofs.Filled.{Filled, filled-none, filled-put}
 use Rattle.galois.specs.Roots.{rootsOf}
 use Rattle.galois.specs.Multiplicity.{multiplicity}
-use Rattle.algebra.proofs.Filled.{Filled, filled-none, filled-put}
 use Rattle.roots.specs.Limits.{mostRoots}
 use Rattle.roots.proofs.Multiples.{count-few, count-ready, count-is, counted-all}
-use borrow.Author.Needs.{needs}
 use Rattle.roots.proofs.inner.multiplicity.counted.Statement.{statement}
 use Rattle.roots.proofs.inner.multiplicity.counted.Tie as tie
 

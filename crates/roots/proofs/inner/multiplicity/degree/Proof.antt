@@ -1,7 +1,7 @@
 -- `degree` meets its contract: above place i every coefficient is 0. Assumes nothing.
 use native.Mathlib.Omega.{arith}
-use Rattle.roots.proofs.Highest.{Above, above-start, above-here, above-next, above-end}
 use borrow.Author.Needs.{needs}
+use Rattle.roots.proofs.Highest.{Above, above-start, above-here, above-next, above-end}
 use Rattle.roots.proofs.inner.multiplicity.degree.Statement.{statement}
 use Rattle.roots.proofs.inner.multiplicity.degree.Tie as tie
 

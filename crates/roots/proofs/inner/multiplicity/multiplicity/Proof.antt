@@ -1,9 +1,9 @@
 -- `multiplicity` meets its contract: k divisions are done, and those still to come make up the multiplicity. Assumes nothing.
 use mathlib.Core.Path.{_≡_, sym, _∙_}
 use Prim.Native.Nat.{_-_}
+use borrow.Author.Needs.{needs}
 use Rattle.roots.specs.Limits.{mostCoefficients}
 use Rattle.roots.proofs.Counting.{Counting, counting-start, counting-stop, counting-next, counting-end}
-use borrow.Author.Needs.{needs}
 use Rattle.roots.proofs.inner.multiplicity.multiplicity.Statement.{statement}
 use Rattle.roots.proofs.inner.multiplicity.multiplicity.Tie as tie
 

@@ -2,11 +2,11 @@
 use mathlib.Core.Path.{sym}
 use Prim.Native.Nat.{ℕ, _-_, _≤_}
 use native.Mathlib.Omega.{arith}
+use borrow.Author.Needs.{needs}
 use lib.ListN.{getD, replicate, getD-replicate, length-replicate}
 use Rattle.algebra.proofs.Filled.{Filled, filled-none, filled-put}
 use Rattle.algebra.proofs.Places.{filled-padded}
 use Rattle.roots.specs.Limits.{mostRoots}
-use borrow.Author.Needs.{needs}
 use Rattle.roots.proofs.inner.multiplicity.ones.Statement.{statement}
 use Rattle.roots.proofs.inner.multiplicity.ones.Tie as tie
 

@@ -2,9 +2,9 @@
 use mathlib.Core.Path.{sym, ap}
 use mathlib.Core.List.{List, [], _∷_, _++_}
 use Prim.Native.Nat.{ℕ}
+use borrow.Author.Needs.{needs}
 use lib.ListN.{drop}
 use Rattle.roots.proofs.Entries.{five-entries}
-use borrow.Author.Needs.{needs}
 use Rattle.roots.proofs.inner.multiplicity.quotient.Statement.{statement}
 use Rattle.roots.proofs.inner.multiplicity.quotient.Tie as tie
 

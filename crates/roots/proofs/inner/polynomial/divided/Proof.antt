@@ -1,7 +1,7 @@
 -- `divided` meets its contract: from place i on the values are those of the polynomial's tails. Assumes nothing.
 use native.Mathlib.Omega.{arith}
-use Rattle.roots.proofs.Division.{Dividing, dividing-start, dividing-next, dividing-end, dividing-lt}
 use borrow.Author.Needs.{needs}
+use Rattle.roots.proofs.Division.{Dividing, dividing-start, dividing-next, dividing-end, dividing-lt}
 use Rattle.roots.proofs.inner.polynomial.divided.Statement.{statement}
 use Rattle.roots.proofs.inner.polynomial.divided.Tie as tie
 

@@ -1,10 +1,10 @@
 -- `value` meets its contract. Assumes nothing.
 use mathlib.Core.Path.{ap, _∙_}
-use Prim.Native.Nat.{ℕ}
 use mathlib.Core.List.{List}
+use Prim.Native.Nat.{ℕ}
+use borrow.Author.Needs.{needs}
 use lib.ListN.{getD}
 use Rattle.roots.proofs.Division.{sums-head}
-use borrow.Author.Needs.{needs}
 use Rattle.roots.proofs.inner.polynomial.value.Statement.{statement}
 use Rattle.roots.proofs.inner.polynomial.value.Tie as tie
 

@@ -1,9 +1,9 @@
 -- `with_root` meets its contract: what is done, and what the coefficient below still goes into, make the whole. Assumes nothing.
 use Prim.Native.Nat.{_-_}
 use native.Mathlib.Omega.{arith}
+use borrow.Author.Needs.{needs}
 use Rattle.galois.proofs.Polynomial.{coeff-at}
 use Rattle.roots.proofs.Division.{Raising, raising-start, raising-next, raising-end}
-use borrow.Author.Needs.{needs}
 use Rattle.roots.proofs.inner.polynomial.with_root.Statement.{statement}
 use Rattle.roots.proofs.inner.polynomial.with_root.Tie as tie
 
