@@ -8,6 +8,8 @@ use crate::own;
 use crate::search;
 use crate::tally;
 use crate::tally::Tally;
+use trial::inner::generator;
+use trial::inner::plain;
 
 // The length of the list of the roots found, and of the lent list: all elements, and eight entries to spare.
 const ENTRIES: usize = 65544;
@@ -58,23 +60,28 @@ fn drawn_bound(e: u32, top: u32) -> u32
 // The equation e of a field: 1 to m + 1 coefficients.
 pub fn drawn(t: Tally, e: u32, p: u32) -> Tally {
     let mut u = t;
-    let m = own::degree(p);
-    let seed = draw::next(t.seed);
+    let m = plain::degree(p);
+    let seed = generator::next(t.seed);
     let mut coefficients = draw::zeros();
-    u.seed = draw::coefficients(seed, drawn_bound(e, own::size(m)), &mut coefficients);
-    call(u, p, &coefficients, (1 + draw::below(seed, m + 1)) as usize)
+    u.seed = draw::coefficients(seed, drawn_bound(e, plain::size(m)), &mut coefficients);
+    call(
+        u,
+        p,
+        &coefficients,
+        (1 + generator::below(seed, m + 1)) as usize,
+    )
 }
 
 // A call in which anything may be wrong: the polynomial, the number of coefficients, which is up to m + 3, and one of them.
 pub fn damaged(t: Tally) -> Tally {
     let mut u = t;
-    let seed = draw::next(t.seed);
-    let p = draw::polynomial(seed);
-    let m = own::degree(p);
-    let top = own::size(m);
-    let count = draw::below(draw::next(seed), m + 4);
+    let seed = generator::next(t.seed);
+    let p = generator::polynomial(seed, draw::SMALL);
+    let m = plain::degree(p);
+    let top = plain::size(m);
+    let count = generator::below(generator::next(seed), m + 4);
     let mut coefficients = draw::zeros();
-    u.seed = draw::coefficients(draw::next(seed), top, &mut coefficients);
+    u.seed = draw::coefficients(generator::next(seed), top, &mut coefficients);
     draw::damage(u.seed, top, count, &mut coefficients);
     call(u, p, &coefficients, count as usize)
 }

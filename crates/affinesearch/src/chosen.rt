@@ -4,6 +4,7 @@ use crate::draw;
 use crate::draw::ROOM;
 use crate::own;
 use crate::tally::Tally;
+use trial::inner::plain;
 
 const ROWS: u32 = 17;
 
@@ -66,7 +67,7 @@ fn constant(k: u32, p: u32, coefficients: &[u32]) -> u32 {
     if c != 0 {
         return c;
     }
-    own::value(p, own::size(own::LARGEST), 0, coefficients, ROOT)
+    own::value(p, plain::size(plain::LARGEST), 0, coefficients, ROOT)
 }
 
 // The equation k, if there is one.

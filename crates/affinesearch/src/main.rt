@@ -11,6 +11,7 @@ mod tally;
 
 use crate::tally::Tally;
 use libc::STDOUT_FILENO;
+use trial::inner::plain;
 
 // How many equations are drawn for the two polynomials of a degree, and how many calls are damaged.
 const DRAWN: u32 = 800;
@@ -19,7 +20,7 @@ const DAMAGED: u32 = 600;
 
 // The equation e of a polynomial of degree m: a chosen one at the largest degree.
 fn equation(t: Tally, m: u32, e: u32, p: u32) -> Tally {
-    if m == own::LARGEST {
+    if m == plain::LARGEST {
         return chosen::equation(t, e, p);
     }
     calls::drawn(t, e, p)
@@ -36,7 +37,7 @@ fn field(t: Tally, row: u32, m: u32) -> Tally {
 
 // The degree whose polynomials stand in the row.
 fn degree(t: Tally, row: u32) -> Tally {
-    let m = own::degree(draw::accepted(row, 0));
+    let m = plain::degree(draw::accepted(row, 0));
     let u = field(t, row, m);
     io::write_all(STDOUT_FILENO, b"m ");
     tally::print_count(m as u64, b": ");

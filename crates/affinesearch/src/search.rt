@@ -2,6 +2,7 @@
 ghost use Prim.Native.Nat.{_≤_};
 ghost use lib.ListN.{length};
 use crate::own;
+use trial::inner::plain;
 
 // How many directions an answer has room for.
 pub const PLACES: usize = 16;
@@ -13,7 +14,7 @@ pub fn tried(number: u32, p: u32) -> u32
     if number != 0 {
         return 0;
     }
-    own::size(own::degree(p))
+    plain::size(plain::degree(p))
 }
 
 // Every element that is a root, ascending, at the front of `found`; how many they are. Each element is written, and the next one over it
@@ -58,8 +59,8 @@ pub fn directions(count: usize, p: u32, coefficients: &[u32]) -> [u32; PLACES] {
     if count == 0 {
         return out;
     }
-    let m = own::degree(p);
-    let top = own::size(m);
+    let m = plain::degree(p);
+    let top = plain::size(m);
     let mut k: usize = 0;
     for j in 0..m {
         let v = least_zero(p, top, coefficients, j);

@@ -8,6 +8,7 @@ use crate::print;
 use crate::search;
 use crate::tally;
 use crate::tally::Tally;
+use trial::inner::plain;
 
 // A call of `solve` with the first `count` entries of `all`.
 pub fn solve(t: Tally, p: u32, all: &[u32], count: usize) -> Tally
@@ -26,7 +27,7 @@ pub fn build(t: Tally, p: u32, all: &[u32], count: usize) -> Tally
     requires { ⌜ count ≤ length (now all) ⌝ }
 {
     let list = &all[..count];
-    let number = own::list_refusal(p, list, 0, 4);
+    let number = plain::list_refusal(p, list, 0, 4);
     let agrees = compare::build_agrees(p, list, number);
     print::first_difference(t, agrees, b"build ", p, list);
     tally::with_build(t, number, agrees)

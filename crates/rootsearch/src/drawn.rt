@@ -4,9 +4,10 @@ use crate::calls;
 use crate::draw;
 use crate::draw::ROOM;
 use crate::kinds;
-use crate::own;
 use crate::repeats;
 use crate::tally::Tally;
+use trial::inner::generator;
+use trial::inner::plain;
 
 // How many equations of each kind are drawn in a field: fewer the more elements are to be tried.
 fn rounds(m: u32) -> u32
@@ -26,7 +27,7 @@ fn equation(t: Tally, e: u32, p: u32, top: u32, elements: [u32; ROOM]) -> Tally 
     let kind = e % kinds::KINDS;
     let c = kinds::equation(kind, p, top, elements);
     let least = kinds::places(kind);
-    let count = least + draw::below(t.seed, 6 - least);
+    let count = least + generator::below(t.seed, 6 - least);
     calls::solve(t, p, &c, count as usize)
 }
 
@@ -39,7 +40,7 @@ fn list(t: Tally, e: u32, p: u32, elements: [u32; ROOM]) -> Tally {
 // The calls number e of a field.
 fn turn(t: Tally, e: u32, p: u32) -> Tally {
     let mut u = t;
-    let top = own::size(own::degree(p));
+    let top = plain::size(plain::degree(p));
     let mut elements = draw::zeros();
     u.seed = draw::elements(t.seed, top, kinds::zeros(e % kinds::KINDS), &mut elements);
     let v = equation(u, e, p, top, elements);
@@ -59,12 +60,12 @@ pub fn calls(t: Tally, m: u32, p: u32) -> Tally {
 // Two calls with a list in which anything may be wrong: the polynomial, the number of entries, which is up to 7, and one of them.
 pub fn damaged(t: Tally) -> Tally {
     let mut u = t;
-    let seed = draw::next(t.seed);
-    let p = draw::polynomial(seed);
-    let top = own::size(own::degree(p));
-    let count = draw::below(draw::next(seed), 8);
+    let seed = generator::next(t.seed);
+    let p = generator::polynomial(seed, generator::ROWS);
+    let top = plain::size(plain::degree(p));
+    let count = generator::below(generator::next(seed), 8);
     let mut entries = draw::zeros();
-    u.seed = draw::elements(draw::next(seed), top, 0, &mut entries);
+    u.seed = draw::elements(generator::next(seed), top, 0, &mut entries);
     draw::damage(u.seed, top, count, &mut entries);
     calls::both(u, p, &entries, count as usize)
 }

@@ -2,8 +2,8 @@
 ghost use Prim.Native.Nat.{_≤_};
 use crate::calls;
 use crate::draw::ROOM;
-use crate::own;
 use crate::tally::Tally;
+use trial::inner::plain;
 
 // The largest degree of a field whose lists are few enough.
 pub const LARGEST: u32 = 3;
@@ -43,7 +43,7 @@ fn lists_of_length(t: Tally, m: u32, p: u32, n: u32) -> Tally
     requires { ⌜ (m ≤ 16) × (n ≤ 5) ⌝ }
 {
     let mut u = t;
-    let top = own::size(m);
+    let top = plain::size(m);
     let end = lists_of(m, n);
     for e in 0..end {
         let all = list(e, top);

@@ -1,10 +1,10 @@
 // Equations of every kind, of drawn elements. `top` is 2^m.
 ghost use Prim.Native.Nat.{_≤_};
 use crate::draw::ROOM;
-use crate::own::product;
 use crate::polynomial;
 use crate::polynomial::PLACES;
 use crate::repeats;
+use trial::inner::plain::product;
 
 // How many kinds there are: one for each list of roots, and as many others.
 pub const KINDS: u32 = 24;

@@ -15,6 +15,8 @@ mod search;
 mod tally;
 
 use crate::tally::Tally;
+use trial::inner::generator;
+use trial::inner::plain;
 
 const DAMAGED: u32 = 800;
 
@@ -32,8 +34,8 @@ fn field(t: Tally, m: u32, p: u32) -> Tally
 fn second(t: Tally, m: u32, row: u32) -> Tally
     requires { ⌜ m ≤ 16 ⌝ }
 {
-    let p = draw::accepted(row, 1);
-    if p == draw::accepted(row, 0) {
+    let p = generator::accepted(row, 1);
+    if p == generator::accepted(row, 0) {
         return t;
     }
     field(t, m, p)
@@ -41,8 +43,8 @@ fn second(t: Tally, m: u32, row: u32) -> Tally
 
 // The degree whose polynomials stand in the row.
 fn degree(t: Tally, row: u32) -> Tally {
-    let p = draw::accepted(row, 0);
-    let m = own::degree(p);
+    let p = generator::accepted(row, 0);
+    let m = plain::degree(p);
     let u = second(field(t, m, p), m, row);
     print::degree(m, t, u);
     u
@@ -50,7 +52,7 @@ fn degree(t: Tally, row: u32) -> Tally {
 
 fn degrees(t: Tally) -> Tally {
     let mut u = t;
-    for row in 0..draw::ROWS {
+    for row in 0..generator::ROWS {
         u = degree(u, row);
     }
     u

@@ -1,7 +1,7 @@
 // Polynomials of degree up to 4 by the program's own product: five coefficients, constant first. `top` is 2^m.
 ghost use Prim.Native.Nat.{_≤_};
 ghost use lib.ListN.{length};
-use crate::own::product;
+use trial::inner::plain::product;
 
 // How many coefficients a polynomial has here.
 pub const PLACES: usize = 5;

@@ -1,9 +1,9 @@
 // What `solve` is to answer: by trying every element, or by the list that a polynomial was built from.
 ghost use Prim.Native.Nat.{_≤_};
-use crate::own;
 use crate::polynomial;
 use crate::polynomial::PLACES;
 use std::num::wrapping_add_u32;
+use trial::inner::plain;
 
 // How many roots an answer has room for.
 pub const ROOTS: usize = 4;
@@ -32,7 +32,7 @@ pub fn tried(number: u32, p: u32) -> u32
     if number != 0 {
         return 0;
     }
-    own::size(own::degree(p))
+    plain::size(plain::degree(p))
 }
 
 // One root more, of multiplicity k; none where k is 0. There are never more than four.
@@ -75,7 +75,7 @@ fn occurrences(list: &[u32], x: u32) -> u32 {
 
 // The roots of the polynomial that was built from the list, without solving: every element that stands in it, as often as it does.
 pub fn listed(p: u32, list: &[u32]) -> Found {
-    let top = own::size(own::degree(p));
+    let top = plain::size(plain::degree(p));
     let mut f = none();
     for x in 0..top {
         f = with_root(f, x, occurrences(list, x));
@@ -88,6 +88,6 @@ pub fn built(number: u32, p: u32, list: &[u32]) -> [u32; PLACES] {
     if number != 0 {
         return [0; PLACES];
     }
-    let top = own::size(own::degree(p));
+    let top = plain::size(plain::degree(p));
     polynomial::with_roots(p, top, 1, list, list.len())
 }

@@ -1,8 +1,8 @@
 -- `divides` is safe: the shifts are those from 16 down to 0. Assumes nothing.
 use Prim.Native.Nat.{_≤_, _-_}
 use borrow.Author.Needs.{needs}
-use Rattle.rootsearch.proofs.own.divides.Statement.{statement}
-use Rattle.rootsearch.proofs.own.divides.Tie as tie
+use Rattle.trial.proofs.inner.plain.divides.Statement.{statement}
+use Rattle.trial.proofs.inner.plain.divides.Tie as tie
 
 abbrev Inv-loop : tie.InvT-loop
 Inv-loop d p rest₀ k₀ rest k = k ≤ 17

@@ -1,12 +1,11 @@
 -- `size` is safe: 65536 shifted by at most 16 is at least 1. Assumes nothing.
-use Prim.Native.Nat.{_-_, _^_}
-use native.Mathlib.Omega.{arith}
 use Prim.Native.Nat.{_≤_, _-_, _^_}
+use native.Mathlib.Omega.{arith}
 use native.Mathlib.Nat.{one-le-pow, div-le-self, le-div-iff-mul-le}
 use lib.Pow.{pow-mono}
 use borrow.Author.Needs.{needs}
-use Rattle.affinesearch.proofs.own.size.Statement.{statement}
-use Rattle.affinesearch.proofs.own.size.Tie as tie
+use Rattle.trial.proofs.inner.plain.size.Statement.{statement}
+use Rattle.trial.proofs.inner.plain.size.Tie as tie
 
 sub-result : tie.Need-sub-result
 sub-result c = search needs

@@ -2,8 +2,8 @@
 use Prim.Native.Nat.{_≤_, _-_}
 use lib.ListN.{length}
 use borrow.Author.Needs.{needs}
-use Rattle.rootsearch.proofs.own.any_from.Statement.{statement}
-use Rattle.rootsearch.proofs.own.any_from.Tie as tie
+use Rattle.trial.proofs.inner.plain.any_from.Statement.{statement}
+use Rattle.trial.proofs.inner.plain.any_from.Tie as tie
 
 abbrev Inv-loop : tie.InvT-loop
 Inv-loop bound list i₀ i-end i = i ≤ length list

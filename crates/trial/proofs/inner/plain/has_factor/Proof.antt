@@ -1,8 +1,8 @@
 -- `has_factor` ends: the divisors run up to 512. Assumes nothing.
 use Prim.Native.Nat.{_≤_, _-_}
 use borrow.Author.Needs.{needs}
-use Rattle.affinesearch.proofs.own.has_factor.Statement.{statement}
-use Rattle.affinesearch.proofs.own.has_factor.Tie as tie
+use Rattle.trial.proofs.inner.plain.has_factor.Statement.{statement}
+use Rattle.trial.proofs.inner.plain.has_factor.Tie as tie
 
 abbrev Inv-loop : tie.InvT-loop
 Inv-loop p d₀ d = d ≤ 512

@@ -1,7 +1,7 @@
 -- `product` ends: the bits that are left run out. Assumes nothing.
 use borrow.Author.Needs.{needs}
-use Rattle.rootsearch.proofs.own.product.Statement.{statement}
-use Rattle.rootsearch.proofs.own.product.Tie as tie
+use Rattle.trial.proofs.inner.plain.product.Statement.{statement}
+use Rattle.trial.proofs.inner.plain.product.Tie as tie
 
 abbrev Inv-loop : tie.InvT-loop
 Inv-loop p top a b sum₀ moved₀ rest₀ sum moved rest = Unit {0}

@@ -1,8 +1,8 @@
 -- `below` is safe, and its number is a remainder. Assumes nothing.
 use native.Mathlib.Nat.{mod-lt}
 use borrow.Author.Needs.{needs}
-use Rattle.rootsearch.proofs.draw.below.Statement.{statement}
-use Rattle.rootsearch.proofs.draw.below.Tie as tie
+use Rattle.trial.proofs.inner.generator.below.Statement.{statement}
+use Rattle.trial.proofs.inner.generator.below.Tie as tie
 
 high-requires : tie.Need-high-requires
 high-requires c κs = search needs

@@ -1,8 +1,8 @@
 -- `degree` is safe: the bits that it tests are those from 16 down to 1. Assumes nothing.
 use Prim.Native.Nat.{_≤_, _-_}
 use borrow.Author.Needs.{needs}
-use Rattle.affinesearch.proofs.own.degree.Statement.{statement}
-use Rattle.affinesearch.proofs.own.degree.Tie as tie
+use Rattle.trial.proofs.inner.plain.degree.Statement.{statement}
+use Rattle.trial.proofs.inner.plain.degree.Tie as tie
 
 abbrev Inv-loop : tie.InvT-loop
 Inv-loop p k₀ k = k ≤ 16

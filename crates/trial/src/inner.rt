@@ -1,0 +1,3 @@
+// Code that may ask something of its caller (a `requires` says what).
+pub mod generator;
+pub mod plain;
