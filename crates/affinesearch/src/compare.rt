@@ -10,6 +10,7 @@ use crate::search;
 use crate::search::PLACES;
 use affine::RootSpace;
 use field::ElementAnswer;
+use trial::inner::plain::same;
 
 // No element.
 const OUTSIDE: u32 = 65536;
@@ -31,15 +32,6 @@ fn space_agrees(space: RootSpace, number: u32, count: usize) -> bool {
     }
 }
 
-fn same_directions(a: &[u32; PLACES], b: &[u32; PLACES]) -> bool {
-    for i in 0..PLACES {
-        if a[i] != b[i] {
-            return false;
-        }
-    }
-    true
-}
-
 fn solve_agrees(
     p: u32,
     coefficients: &[u32],
@@ -57,7 +49,7 @@ fn solve_agrees(
     if base.0 != root_or(roots, 0, 0) {
         return false;
     }
-    same_directions(&said, directions)
+    same(&said, directions)
 }
 
 fn place_agrees(p: u32, coefficients: &[u32], number: u32, roots: &[u16], n: u32) -> bool {

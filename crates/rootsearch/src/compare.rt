@@ -3,9 +3,9 @@
 use crate::polynomial::PLACES;
 use crate::search;
 use crate::search::Found;
-use crate::search::ROOTS;
 use roots::Building;
 use roots::RootCount;
+use trial::inner::plain::same;
 
 fn count_agrees(answer: RootCount, number: u32, count: u32) -> bool {
     match answer {
@@ -21,24 +21,6 @@ fn building_agrees(answer: Building, number: u32) -> bool {
     }
 }
 
-fn same_roots(a: [u32; ROOTS], b: [u32; ROOTS]) -> bool {
-    for i in 0..ROOTS {
-        if a[i] != b[i] {
-            return false;
-        }
-    }
-    true
-}
-
-fn same_coefficients(a: [u32; PLACES], b: [u32; PLACES]) -> bool {
-    for i in 0..PLACES {
-        if a[i] != b[i] {
-            return false;
-        }
-    }
-    true
-}
-
 // Whether `solve` answers by the roots found, none where the call is to be turned down.
 pub fn solve_agrees(p: u32, coefficients: &[u32], number: u32, found: Found) -> bool {
     let answer = roots::solve(p, coefficients);
@@ -50,10 +32,10 @@ pub fn solve_agrees(p: u32, coefficients: &[u32], number: u32, found: Found) -> 
     if !count_agrees(count, number, found.count) {
         return false;
     }
-    if !same_roots(said, expected) {
+    if !same(&said, &expected) {
         return false;
     }
-    same_roots(often, multiplicities)
+    same(&often, &multiplicities)
 }
 
 // Whether `solve` gives the list's entries back from the coefficients that were built from them.
@@ -72,7 +54,8 @@ pub fn build_agrees(p: u32, list: &[u32], number: u32) -> bool {
     if !building_agrees(building, number) {
         return false;
     }
-    if !same_coefficients(coefficients, search::built(number, p, list)) {
+    let expected = search::built(number, p, list);
+    if !same(&coefficients, &expected) {
         return false;
     }
     round_trip_agrees(p, list, number, &coefficients)

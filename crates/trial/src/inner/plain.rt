@@ -68,6 +68,19 @@ pub fn size(m: u32) -> u32
     65536 >> (LARGEST - m)
 }
 
+// Whether two lists are the same.
+pub fn same(a: &[u32], b: &[u32]) -> bool {
+    if a.len() != b.len() {
+        return false;
+    }
+    for i in 0..a.len() {
+        if a[i] != b[i] {
+            return false;
+        }
+    }
+    true
+}
+
 // Whether an entry is `bound` or more.
 pub fn any_from(bound: u32, list: &[u32]) -> bool {
     for i in 0..list.len() {

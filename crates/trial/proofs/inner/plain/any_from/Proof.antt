@@ -1,7 +1,7 @@
 -- `any_from` is safe: the place stays within the list. Assumes nothing.
 use Prim.Native.Nat.{_≤_, _-_}
-use lib.ListN.{length}
 use borrow.Author.Needs.{needs}
+use lib.ListN.{length}
 use Rattle.trial.proofs.inner.plain.any_from.Statement.{statement}
 use Rattle.trial.proofs.inner.plain.any_from.Tie as tie
 

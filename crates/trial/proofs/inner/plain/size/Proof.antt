@@ -2,8 +2,8 @@
 use Prim.Native.Nat.{_≤_, _-_, _^_}
 use native.Mathlib.Omega.{arith}
 use native.Mathlib.Nat.{one-le-pow, div-le-self, le-div-iff-mul-le}
-use lib.Pow.{pow-mono}
 use borrow.Author.Needs.{needs}
+use lib.Pow.{pow-mono}
 use Rattle.trial.proofs.inner.plain.size.Statement.{statement}
 use Rattle.trial.proofs.inner.plain.size.Tie as tie
 
