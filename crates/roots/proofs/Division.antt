@@ -62,7 +62,9 @@ dividing-next p r f out i j w e q g =
       within = omega (arith, g .within);
       long = length-set out j v ∙ g .long;
       done = put-before out (sums p r (drop (suc j) f)) j v here (rw e at (g .done))
-          ∙ ap (λ (u : ℕ). u ∷ sums p r (drop (suc j) f)) (sym (is-xor (getD f j 0) w) ∙ ap (λ (u : ℕ). getD f j 0 ⊕ u) (q ∙ ap (product p r) (dividing-value p r f out i g ∙ ap (λ (k : ℕ). value p (drop k f) r) e)))
+          ∙ ap (λ (u : ℕ). u ∷ sums p r (drop (suc j) f))
+          (sym (is-xor (getD f j 0) w) ∙ ap (λ (u : ℕ). getD f j 0 ⊕ u)
+          (q ∙ ap (product p r) (dividing-value p r f out i g ∙ ap (λ (k : ℕ). value p (drop k f) r) e)))
           ∙ sym (ap (sums p r) (drop-cons f j 0 (omega (arith, g .within))));
     }
 

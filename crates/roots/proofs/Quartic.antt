@@ -71,10 +71,12 @@ module _ (m p c0 c1 c2 c3 c4 : ℕ) (R : Ready m p (c0 ∷ c1 ∷ c2 ∷ c3 ∷ 
   unfolding value
   quartic-product x y hx hy unit =
       ring-on-given (ring m p F) ((x, hx) ∷ (s, shift-lt) ∷ (y, hy) ∷ (c0, R .small .0) ∷ (c1, h1) ∷ (c2, R .small .1 .1 .0) ∷ (c3, h3) ∷ (c4, R .small .1 .1 .1 .1 .0) ∷ [])
-      (var 7 ∔ var 2 ⊗ (var 6 ∔ var 2 ⊗ (var 5 ∔ var 6 ⊗ var 1 ∔ var 2 ⊗ (O ∔ var 2 ⊗ (var 3 ∔ var 1 ⊗ (var 4 ∔ var 1 ⊗ (var 5 ∔ var 1 ⊗ (var 6 ∔ var 1 ⊗ (var 7 ∔ var 1 ⊗ O)))) ∔ var 2 ⊗ O)))))
+      (var 7 ∔ var 2 ⊗ (var 6 ∔ var 2 ⊗ (var 5 ∔ var 6 ⊗ var 1 ∔ var 2 ⊗ (O ∔ var 2 ⊗
+      (var 3 ∔ var 1 ⊗ (var 4 ∔ var 1 ⊗ (var 5 ∔ var 1 ⊗ (var 6 ∔ var 1 ⊗ (var 7 ∔ var 1 ⊗ O)))) ∔ var 2 ⊗ O)))))
       (var 2 ⊗ var 2 ⊗ (var 2 ⊗ var 2) ⊗ (var 3 ∔ var 0 ⊗ (var 4 ∔ var 0 ⊗ (var 5 ∔ var 0 ⊗ (var 6 ∔ var 0 ⊗ (var 7 ∔ var 0 ⊗ O))))))
       (using-eq
-      ((var 5 ∔ var 6 ⊗ var 1) ⊗ (var 2 ⊗ var 2) ⊗ ((var 0 ∔ var 1) ⊗ var 2 ∔ I) ∔ var 6 ⊗ var 2 ⊗ ((var 0 ∔ var 1) ⊗ var 2 ⊗ ((var 0 ∔ var 1) ⊗ var 2) ∔ (var 0 ∔ var 1) ⊗ var 2 ∔ I) ∔ var 7 ⊗ pow ((var 0 ∔ var 1) ⊗ var 2 ∔ I) 3)
+      ((var 5 ∔ var 6 ⊗ var 1) ⊗ (var 2 ⊗ var 2) ⊗ ((var 0 ∔ var 1) ⊗ var 2 ∔ I)
+      ∔ var 6 ⊗ var 2 ⊗ ((var 0 ∔ var 1) ⊗ var 2 ⊗ ((var 0 ∔ var 1) ⊗ var 2) ∔ (var 0 ∔ var 1) ⊗ var 2 ∔ I) ∔ var 7 ⊗ pow ((var 0 ∔ var 1) ⊗ var 2 ∔ I) 3)
       ((var 0 ∔ var 1) ⊗ var 2) I unit
       (using-eq (var 2 ⊗ var 2 ⊗ (var 2 ⊗ var 2) ⊗ (var 0 ∔ var 1)) (var 6 ⊗ (var 1 ⊗ var 1)) (var 4) shift-square alone))
       refl

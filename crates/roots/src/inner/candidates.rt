@@ -27,7 +27,8 @@ pub struct Candidates {
     pub list: [u32; MOST_COEFFICIENTS],
 }
 
-// The degree of the smallest field, where x^4 = x: there is no coefficient of x^4, and it is added to that of x.
+// The degree of the smallest field. There x^4 = x for every element, and affine equations stop at x^2: the coefficient of x^4 is added to
+// that of x.
 const FOLDED: u32 = 2;
 
 // The solutions of c + l0·x + l1·x^2 + l2·x^4 = 0 as base and directions.
