@@ -1,9 +1,9 @@
 -- What the calls' definitions mean, for every accepted field polynomial p, its degree m a parameter, and every list of coefficients: the
 -- roots, base and directions (`answer-canonical`, `answer-only`), how many (`root-count`), the places (`places-in-order`), equations that
 -- are all zero (`all-zero-roots`). Assumes nothing.
-use mathlib.Core.Path.{_≡_, refl, sym, ap, ap₂, _∙_, subst}
+use mathlib.Core.Path.{_≡_, sym, ap, ap₂, _∙_, subst}
 use mathlib.Core.Logic.{_↔_}
-use mathlib.Core.Bool.{Bool, true, false}
+use mathlib.Core.Bool.{true, false}
 use mathlib.Core.List.{List, [], _∷_, map}
 use Prim.Native.Nat.{ℕ, zero, _^_, _<_}
 use native.Mathlib.Omega.{arith}
@@ -11,8 +11,8 @@ use lib.Dec.{T}
 use lib.ListN.{length, getD, drop}
 use Rattle.algebra.specs.Lists.{Member, Ascending, countUp, keep}
 use Rattle.algebra.specs.Search.{someBelow}
-use Rattle.algebra.proofs.Onto.{of-keep, to-keep}
-use Rattle.algebra.proofs.CountUp.{of-countUp, to-countUp, countUp-ascending, keep-ascending, keep-all, map-countUp}
+use Rattle.algebra.proofs.Search.{is-true}
+use Rattle.algebra.proofs.CountUp.{kept-iff, kept-ascending, keep-all, map-countUp}
 use Rattle.binary.specs.Xor.{_⊕_}
 use Rattle.binary.specs.Factor.{degreeOf}
 use Rattle.binary.proofs.Xor.{zero-xor}
@@ -45,23 +45,15 @@ module _ (p : ℕ) (A : Accepted p) (cs : List ℕ) where
   -- the list of all roots holds the roots and nothing else, ascending
   pub roots-exactly : (x : ℕ) → Member x (allRoots m p cs) ↔ (x < 2 ^ m) × (affineAt p (getD cs 0 0) (drop 1 cs) x ≡ 0)
   unfolding allRoots
-  roots-exactly x = (
-    λ h.
-        let r = of-keep (isRoot p cs) (countUp 0 (2 ^ m)) x h in
-        let b = of-countUp 0 (2 ^ m) x (r .0) in
-        (omega arith, root-test p cs x .0 (truly (isRoot p cs x) (r .1))),
-    λ h.
-        let l = h .0 in
-        to-keep (isRoot p cs) (countUp 0 (2 ^ m)) x (to-countUp 0 (2 ^ m) x (omega arith) (omega arith)) (subst T (sym (root-test p cs x .1 (h .1))) tt),
-  )
-    where
-      truly : (b : Bool) → T b → b ≡ true
-      truly true t = refl
-      truly false t = absurd t
+  roots-exactly x =
+      let k = kept-iff (isRoot p cs) (2 ^ m) x in (
+        λ h. (k .0 h .0, root-test p cs x .0 (is-true (isRoot p cs x) (k .0 h .1))),
+        λ h. k .1 (h .0, subst T (sym (root-test p cs x .1 (h .1))) tt),
+      )
 
   pub roots-ascending : Ascending (allRoots m p cs)
   unfolding allRoots
-  roots-ascending = keep-ascending (isRoot p cs) (countUp 0 (2 ^ m)) (countUp-ascending 0 (2 ^ m))
+  roots-ascending = kept-ascending (isRoot p cs) (2 ^ m)
 
   -- base and directions are as document 01 describes them: `Canonical` has its sentences one by one
   pub answer-canonical : HasRoot → Canonical m (isRoot p cs) (baseOf m p cs) (directionsOf m p cs)

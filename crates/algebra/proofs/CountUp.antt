@@ -1,15 +1,16 @@
 -- The numbers from k on, ascending: their entries, their order; what a test keeps of an ascending list and what an increasing function
 -- makes of one. Assumes nothing.
 use mathlib.Core.Path.{_≡_, refl, ap, ap₂, _∙_}
-use mathlib.Core.Logic.{_⊎_, inl, inr}
+use mathlib.Core.Logic.{_⊎_, inl, inr, _↔_}
 use mathlib.Core.Bool.{Bool, true, false}
 use mathlib.Core.List.{List, [], _∷_, map}
 use Prim.Native.Nat.{ℕ, zero, suc, _+_, _≤_, _<_}
 use native.Mathlib.Decide.{ℕ-discrete}
 use native.Mathlib.Omega.{arith}
+use lib.Dec.{T}
 use lib.ListN.{length, getD}
 use Rattle.algebra.specs.Lists.{Member, Ascending, countUp, keep}
-use Rattle.algebra.proofs.Onto.{of-map, of-keep}
+use Rattle.algebra.proofs.Onto.{of-map, of-keep, to-keep}
 
 pub of-countUp : (k n x : ℕ) → Member x (countUp k n) → (k ≤ x) × (x < k + n)
 of-countUp k zero x h = absurd h
@@ -50,6 +51,16 @@ keep-ascending t (x ∷ xs) a = go (t x) (keep-ascending t xs (a .1))
     go : (b : Bool) → Ascending (keep t xs) → Ascending (elim b as (λ (_ : Bool). List ℕ) [ true ↦ x ∷ keep t xs | false ↦ keep t xs ])
     go true r = (λ y h. a .0 y (of-keep t xs y h .0), r)
     go false r = r
+
+-- the numbers below n that pass a test
+pub kept-iff : (t : ℕ → Bool) (n x : ℕ) → Member x (keep t (countUp 0 n)) ↔ (x < n) × T (t x)
+kept-iff t n x = (
+  λ h. let r = of-keep t (countUp 0 n) x h in let b = of-countUp 0 n x (r .0) in (omega arith, r .1),
+  λ h. let l = h .0 in to-keep t (countUp 0 n) x (to-countUp 0 n x (omega arith) (omega arith)) (h .1),
+)
+
+pub kept-ascending : (t : ℕ → Bool) (n : ℕ) → Ascending (keep t (countUp 0 n))
+kept-ascending t n = keep-ascending t (countUp 0 n) (countUp-ascending 0 n)
 
 -- a test that every entry passes
 pub keep-all : (t : ℕ → Bool) (xs : List ℕ) → ((x : ℕ) → Member x xs → t x ≡ true) → keep t xs ≡ xs

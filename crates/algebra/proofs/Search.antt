@@ -140,8 +140,19 @@ pub some-same : (f g : ℕ → Bool) (n : ℕ) → ((j : ℕ) → j < n → f j 
 unfolding someBelow
 some-same f g n h = ap (λ (k : ℕ). ltb k n) (first-same f g n h)
 
+-- a test that holds says yes
+pub is-true : (b : Bool) → T b → b ≡ true
+is-true true t = refl
+is-true false t = absurd t
+
 -- tests that say yes to the same
 pub same-test : (a b : Bool) → (a ≡ true) ↔ (b ≡ true) → a ≡ b
 same-test true b h = sym (h .0 refl)
 same-test false true h = h .1 refl
 same-test false false h = refl
+
+-- tests that say no to the same
+pub same-no : (a b : Bool) → (a ≡ false) ↔ (b ≡ false) → a ≡ b
+same-no false b h = sym (h .0 refl)
+same-no true false h = h .1 refl
+same-no true true h = refl

@@ -23,6 +23,6 @@ count r [] = 0
 count r (a ∷ rs) = same a r + count r rs
 
 -- the sum of a list
-unfoldable pub total : List ℕ → ℕ
-total [] = 0
-total (x ∷ xs) = x + total xs
+unfoldable pub sumOf : List ℕ → ℕ
+sumOf [] = 0
+sumOf (x ∷ xs) = x + sumOf xs

@@ -1,11 +1,12 @@
 -- "Each entry has the degree it stands under and is irreducible" (01): one test over the whole table, and one law. Assumes nothing.
-use mathlib.Core.Path.{_≡_, refl, subst}
-use mathlib.Core.Bool.{Bool, true, false, _&&_}
+use mathlib.Core.Path.{_≡_, subst}
+use mathlib.Core.Bool.{Bool, true, _&&_}
 use Prim.Native.Nat.{ℕ, suc, _+_, _-_, _^_, _≤_, _<_}
 use native.Mathlib.Omega.{arith}
 use lib.Dec.{T, leb, ltb, leb→le, ltb→lt}
 use lib.ListN.{getD}
 use Rattle.algebra.specs.Search.{everyBelow}
+use Rattle.algebra.proofs.Search.{is-true}
 use Rattle.algebra.proofs.Table.{at, both-left, both-right}
 use Rattle.binary.specs.Xor.{_⊕_}
 use Rattle.binary.specs.Fold.{fold, foldF}
@@ -18,10 +19,6 @@ use Rattle.field.specs.House.{houseTable, houseEntry}
 -- the entry x at place k, for the degree k + 2
 right : ℕ → ℕ → Bool
 right k x = leb (2 ^ (k + smallestDegree)) x && (ltb x (2 ^ suc (k + smallestDegree)) && factorFree (k + smallestDegree) x)
-
-yes : (b : Bool) → T b → b ≡ true
-yes true t = refl
-yes false t = absurd t
 
 all-right : (k : ℕ) → k < 15 → T (right k (getD houseTable k 0))
 unfolding right factorFree everyBelow fold foldF _⊕_ remainder remainderBy top topStep reduce remainderStep
@@ -38,4 +35,4 @@ house-irreducible d h l =
     let v = both-right (leb (2 ^ d) x) (ltb x (2 ^ suc d) && factorFree d x) u in
     test-irreducible d x
     (leb→le (2 ^ d) x (both-left (leb (2 ^ d) x) (ltb x (2 ^ suc d) && factorFree d x) u), ltb→lt x (2 ^ suc d) (both-left (ltb x (2 ^ suc d)) (factorFree d x) v))
-    (yes (factorFree d x) (both-right (ltb x (2 ^ suc d)) (factorFree d x) v))
+    (is-true (factorFree d x) (both-right (ltb x (2 ^ suc d)) (factorFree d x) v))

@@ -80,6 +80,11 @@ refused-by {A} refused v r ts e n = go r n ∙ ap (λ (k : ℕ). answerBy k refu
 pub answered-by : {A : Type 0} (refused : ℕ → A) (v : A) (ts : List Test) → refusal ts ≡ 0 → v ≡ answerBy (refusal ts) refused v
 answered-by refused v ts e = ap (λ (k : ℕ). answerBy k refused v) (sym e)
 
+-- a call that is not turned down answers by its value alone
+pub same-answer : {A : Type 0} (r : ℕ) (refused : ℕ → A) (v w : A) → (r ≡ 0 → v ≡ w) → answerBy r refused v ≡ answerBy r refused w
+same-answer zero refused v w h = h refl
+same-answer (suc r) refused v w h = refl
+
 pub down : (r v : ℕ) (ts : List Test) → r ≡ refusal ts → r ≢ 0 → turnedDown r ≡ outcome ts v
 down r v ts e n = refused-by turnedDown (gives v) r ts e n
 

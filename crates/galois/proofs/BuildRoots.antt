@@ -5,16 +5,15 @@ use mathlib.Core.Logic.{_⊎_, inl, inr, _↔_}
 use mathlib.Core.Bool.{Bool, true, false, _||_}
 use mathlib.Core.List.{List, [], _∷_, _++_, map}
 use Prim.Native.Nat.{ℕ, _^_, _<_}
-use native.Mathlib.Omega.{arith}
 use lib.Dec.{T, eqb, eqb→eq, eqb-refl}
 use Rattle.binary.specs.Xor.{_⊕_}
 use Rattle.binary.proofs.Xor.{xor-zero}
 use Rattle.binary.specs.Product.{product}
 use Rattle.binary.proofs.Product.{product-zero}
-use Rattle.algebra.specs.Lists.{Member, Ascending, countUp}
+use Rattle.algebra.specs.Lists.{Member, Ascending}
 use Rattle.algebra.specs.Counts.{count}
-use Rattle.algebra.proofs.Onto.{map-alike, of-keep, to-keep}
-use Rattle.algebra.proofs.CountUp.{of-countUp, to-countUp, countUp-ascending, keep-ascending}
+use Rattle.algebra.proofs.Onto.{map-alike}
+use Rattle.algebra.proofs.CountUp.{kept-iff, kept-ascending}
 use Rattle.galois.specs.Field.{Field}
 use Rattle.galois.specs.Polynomial.{value, Coeffs, withRoot, build, factorsAt}
 use Rattle.galois.specs.Roots.{rootsOf, isEntry, elementsOf}
@@ -47,17 +46,13 @@ entry-iff (r ∷ rs) x = (λ h. of (eqb x r) refl h (λ k. entry-iff rs x .0 k),
 
 pub elements-iff : (m : ℕ) (rs : List ℕ) (x : ℕ) → Member x (elementsOf m rs) ↔ (x < 2 ^ m) × Member x rs
 unfolding elementsOf
-elements-iff m rs x = (
-  λ h. let r = of-keep (isEntry rs) (countUp 0 (2 ^ m)) x h in
-      let b = of-countUp 0 (2 ^ m) x (r .0) in
-      (omega arith, entry-iff rs x .0 (r .1)),
-  λ h. let l = h .0 in
-      to-keep (isEntry rs) (countUp 0 (2 ^ m)) x (to-countUp 0 (2 ^ m) x (omega arith) (omega arith)) (entry-iff rs x .1 (h .1)),
-)
+elements-iff m rs x =
+    let k = kept-iff (isEntry rs) (2 ^ m) x in
+    (λ h. (k .0 h .0, entry-iff rs x .0 (k .0 h .1)), λ h. k .1 (h .0, entry-iff rs x .1 (h .1)))
 
 pub elements-ascending : (m : ℕ) (rs : List ℕ) → Ascending (elementsOf m rs)
 unfolding elementsOf
-elements-ascending m rs = keep-ascending (isEntry rs) (countUp 0 (2 ^ m)) (countUp-ascending 0 (2 ^ m))
+elements-ascending m rs = kept-ascending (isEntry rs) (2 ^ m)
 
 module _ (m p : ℕ) (F : Field m p) where
   pub roots-back : (rs : List ℕ) → Coeffs m rs → rootsOf m p (build p rs) ≡ elementsOf m rs

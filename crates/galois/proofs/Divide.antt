@@ -3,7 +3,7 @@
 use mathlib.Core.Path.{_≡_, refl, sym, ap, ap₂, _∙_, subst}
 use mathlib.Core.List.{List, [], _∷_}
 use Prim.Native.Nat.{ℕ, suc, _^_, _<_}
-use lib.ListN.{length}
+use lib.ListN.{length, getD}
 use lib.Pow.{pow-pos}
 use Rattle.binary.specs.Xor.{_⊕_}
 use Rattle.binary.proofs.Xor.{xor-zero, zero-xor, xor-self, xor-assoc, xor-lt, ac}
@@ -158,3 +158,9 @@ module _ (m p : ℕ) (F : Field m p) where
 
   pub withRoot-zero : (a : ℕ) (f : List ℕ) → AllZero (withRoot p a f) → AllZero f
   withRoot-zero a f z = subst AllZero (withoutRoot-withRoot a f) (withoutRoot-zero p a (withRoot p a f) z)
+
+-- the first of the values at r is that of the whole
+pub sums-head : (p r : ℕ) (f : List ℕ) → getD (sums p r f) 0 0 ≡ value p f r
+unfolding sums value
+sums-head p r [] = refl
+sums-head p r (c ∷ f) = refl

@@ -7,7 +7,7 @@ use Prim.Native.Nat.{ℕ, zero, suc, _+_, _^_, _≤_, _<_}
 use native.Mathlib.Omega.{arith}
 use lib.ListN.{length}
 use Rattle.algebra.specs.Lists.{Member, Nodup}
-use Rattle.algebra.specs.Counts.{total}
+use Rattle.algebra.specs.Counts.{sumOf}
 use Rattle.algebra.proofs.Onto.{map-alike}
 use Rattle.algebra.proofs.Ascending.{ascending-nodup}
 use Rattle.galois.specs.Field.{Field}
@@ -66,8 +66,8 @@ module _ (m p : ℕ) (F : Field m p) where
       ∙ often-other r s k f hr hs n h z
 
   pub total-few : (rs f : List ℕ) → Nodup rs → ((r : ℕ) → Member r rs → r < 2 ^ m) → Coeffs m f → (AllZero f → ⊥)
-      → total (map (λ r. multiplicity p r f) rs) < length f
-  unfolding total
+      → sumOf (map (λ r. multiplicity p r f) rs) < length f
+  unfolding sumOf
   total-few [] [] d b h z = absurd (z tt)
   total-few [] (c ∷ f) d b h z = omega arith
   total-few (r ∷ rs) f d b h z =
@@ -77,13 +77,13 @@ module _ (m p : ℕ) (F : Field m p) where
       let hq : Coeffs m q = of-often-coeffs r k q (subst (Coeffs m) (s .1) h) in
       let zq : AllZero q → ⊥ = λ w. s .2 (zero-value p q r w) in
       let l = total-few rs q (d .1) (λ x j. b x (inr j)) hq zq in
-      let t = ap total
+      let t = ap sumOf
       (map-alike (λ x. multiplicity p x f) (λ x. multiplicity p x q) rs
       (λ x j. ap (multiplicity p x) (s .1)
       ∙ often-other r x k q (b r (inl refl)) (b x (inr j)) (λ e. d .0 (subst (λ (v : ℕ). Member v rs) (sym e) j)) hq zq)) in
       let e = ap length (s .1) ∙ often-length p r k q in
       omega arith
 
-  pub roots-total : (f : List ℕ) → Coeffs m f → (AllZero f → ⊥) → total (map (λ r. multiplicity p r f) (rootsOf m p f)) < length f
+  pub roots-total : (f : List ℕ) → Coeffs m f → (AllZero f → ⊥) → sumOf (map (λ r. multiplicity p r f) (rootsOf m p f)) < length f
   roots-total f h z =
       total-few (rootsOf m p f) f (ascending-nodup (rootsOf m p f) (roots-ascending m p f)) (λ r k. roots-iff m p f r .0 k .0) h z

@@ -22,3 +22,4 @@ pub mod Largest
 pub mod CubeRoots
 pub mod EvenCubes
 pub mod Cubes
+pub mod Degree

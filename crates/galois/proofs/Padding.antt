@@ -1,15 +1,16 @@
 -- Zeros above the highest coefficient change nothing: neither the value (`value-pad`), nor the roots (`roots-pad`), nor a multiplicity
--- (`multiplicity-pad`). Assumes nothing.
+-- (`multiplicity-pad`); they are elements (`coeffs-pad`), and the whole is all zero where the rest is (`zero-pad`). Assumes nothing.
 use mathlib.Core.Path.{_≡_, refl, sym, ap, ap₂, _∙_}
 use mathlib.Core.List.{List, [], _∷_, _++_}
 use Prim.Native.Nat.{ℕ, zero, suc}
 use native.Mathlib.Decide.{ℕ-discrete}
 use native.Mathlib.Omega.{arith}
 use lib.ListN.{length, replicate}
+use lib.Pow.{pow-pos}
 use Rattle.binary.specs.Xor.{_⊕_}
 use Rattle.binary.specs.Product.{product}
 use Rattle.galois.specs.Field.{Field}
-use Rattle.galois.specs.Polynomial.{value, AllZero, sums, withoutRoot}
+use Rattle.galois.specs.Polynomial.{value, Coeffs, AllZero, sums, withoutRoot}
 use Rattle.galois.specs.Roots.{rootsOf}
 use Rattle.galois.specs.Multiplicity.{multiplicityUpTo, multiplicity}
 use Rattle.galois.proofs.Polynomial.{zero-value}
@@ -21,13 +22,28 @@ use Rattle.galois.proofs.Multiplicity.{multiplicity-none, multiplicity-
 abbrev zeros : ℕ → List ℕ
 zeros n = replicate n 0
 
-zeros-zero : (n : ℕ) → AllZero (zeros n)
-zeros-zero zero = tt
-zeros-zero (suc n) = (refl, zeros-zero n)
+-- coefficients that are elements, and all zero
+pub coeffs-pad : (m : ℕ) (f : List ℕ) (n : ℕ) → Coeffs m f → Coeffs m (f ++ replicate n 0)
+coeffs-pad m [] zero h = tt
+coeffs-pad m [] (suc n) h = (pow-pos m, coeffs-pad m [] n tt)
+coeffs-pad m (c ∷ f) n h = (h .0, coeffs-pad m f n (h .1))
+
+pub coeffs-front : (m : ℕ) (f : List ℕ) (n : ℕ) → Coeffs m (f ++ replicate n 0) → Coeffs m f
+coeffs-front m [] n h = tt
+coeffs-front m (c ∷ f) n h = (h .0, coeffs-front m f n (h .1))
+
+pub pad-zero : (f : List ℕ) (n : ℕ) → AllZero f → AllZero (f ++ replicate n 0)
+pad-zero [] zero z = tt
+pad-zero [] (suc n) z = (refl, pad-zero [] n tt)
+pad-zero (c ∷ f) n z = (z .0, pad-zero f n (z .1))
+
+pub zero-pad : (f : List ℕ) (n : ℕ) → AllZero (f ++ replicate n 0) → AllZero f
+zero-pad [] n z = tt
+zero-pad (c ∷ f) n z = (z .0, zero-pad f n (z .1))
 
 pub value-pad : (p : ℕ) (f : List ℕ) (n x : ℕ) → value p (f ++ replicate n 0) x ≡ value p f x
 unfolding value
-value-pad p [] n x = zero-value p (zeros n) x (zeros-zero n)
+value-pad p [] n x = zero-value p (zeros n) x (pad-zero [] n tt)
 value-pad p (c ∷ f) n x = ap (λ (v : ℕ). c ⊕ product p x v) (value-pad p f n x)
 
 pub roots-pad : (m p : ℕ) (f : List ℕ) (n : ℕ) → rootsOf m p (f ++ replicate n 0) ≡ rootsOf m p f
@@ -37,7 +53,7 @@ roots-pad m p f n = roots-same m p (f ++ zeros n) f (λ x h. value-pad p f n x)
 sums-zeros : (p r n : ℕ) → sums p r (zeros n) ≡ zeros n
 unfolding sums
 sums-zeros p r zero = refl
-sums-zeros p r (suc n) = ap₂ _∷_ (zero-value p (zeros (suc n)) r (zeros-zero (suc n))) (sums-zeros p r n)
+sums-zeros p r (suc n) = ap₂ _∷_ (zero-value p (zeros (suc n)) r (pad-zero [] (suc n) tt)) (sums-zeros p r n)
 
 sums-pad : (p r : ℕ) (f : List ℕ) (n : ℕ) → sums p r (f ++ zeros n) ≡ sums p r f ++ zeros n
 unfolding sums
@@ -59,7 +75,7 @@ zero-multiplicityUpTo p r (suc k) f z =
 pub multiplicityUpTo-pad : (p r k : ℕ) (f : List ℕ) (n : ℕ) → multiplicityUpTo p r k (f ++ replicate n 0) ≡ multiplicityUpTo p r k f
 unfolding multiplicityUpTo
 multiplicityUpTo-pad p r zero f n = refl
-multiplicityUpTo-pad p r (suc k) [] n = zero-multiplicityUpTo p r (suc k) (zeros n) (zeros-zero n) ∙ sym (zero-multiplicityUpTo p r (suc k) [] tt)
+multiplicityUpTo-pad p r (suc k) [] n = zero-multiplicityUpTo p r (suc k) (zeros n) (pad-zero [] n tt) ∙ sym (zero-multiplicityUpTo p r (suc k) [] tt)
 multiplicityUpTo-pad p r (suc k) (c ∷ f) n =
     ap₂ (λ (v t : ℕ). elim v as (λ (_ : ℕ). ℕ) [ zero ↦ suc t | suc j ↦ 0 ]) (value-pad p (c ∷ f) n r)
     (ap (multiplicityUpTo p r k) (withoutRoot-pad p r c f n) ∙ multiplicityUpTo-pad p r k (withoutRoot p r (c ∷ f)) n)

@@ -1,10 +1,10 @@
 -- C4: the value of a coefficient list stays in the field, and of a list joined to another; coefficients place by place (`coeff-at`,
--- `coeffs-of`). Assumes nothing.
+-- `coeffs-of`, `zero-at`, `zero-of`) and from a place on (`coeffs-drop`). Assumes nothing.
 use mathlib.Core.Path.{_≡_, refl, sym, ap, ap₂, _∙_}
 use mathlib.Core.List.{List, [], _∷_, _++_}
 use Prim.Native.Nat.{ℕ, zero, suc, _^_, _<_}
 use native.Mathlib.Omega.{arith}
-use lib.ListN.{length, getD}
+use lib.ListN.{length, getD, drop}
 use lib.Pow.{pow-pos}
 use Rattle.binary.specs.Xor.{_⊕_}
 use Rattle.binary.proofs.Xor.{zero-xor, xor-assoc, xor-lt}
@@ -24,6 +24,21 @@ coeff-at m (c ∷ f) (suc i) h = coeff-at m f i (h .1)
 pub coeffs-of : (m : ℕ) (f : List ℕ) → ((i : ℕ) → i < length f → getD f i 0 < 2 ^ m) → Coeffs m f
 coeffs-of m [] h = tt
 coeffs-of m (c ∷ f) h = (h 0 (omega arith), coeffs-of m f (λ i l. h (suc i) (omega arith)))
+
+-- all zero, place by place
+pub zero-at : (f : List ℕ) (i : ℕ) → AllZero f → getD f i 0 ≡ 0
+zero-at [] i z = refl
+zero-at (c ∷ f) zero z = z .0
+zero-at (c ∷ f) (suc i) z = zero-at f i (z .1)
+
+pub zero-of : (f : List ℕ) → ((i : ℕ) → i < length f → getD f i 0 ≡ 0) → AllZero f
+zero-of [] h = tt
+zero-of (c ∷ f) h = (h 0 (omega arith), zero-of f (λ i l. h (suc i) (omega arith)))
+
+pub coeffs-drop : (m : ℕ) (f : List ℕ) (i : ℕ) → Coeffs m f → Coeffs m (drop i f)
+coeffs-drop m f zero h = h
+coeffs-drop m [] (suc i) h = tt
+coeffs-drop m (c ∷ f) (suc i) h = coeffs-drop m f i (h .1)
 
 pub zero-value : (p : ℕ) (f : List ℕ) (x : ℕ) → AllZero f → value p f x ≡ 0
 unfolding value

@@ -4,13 +4,11 @@ use mathlib.Core.Path.{_≡_, sym, subst, _∙_}
 use mathlib.Core.Logic.{_↔_}
 use mathlib.Core.List.{List}
 use Prim.Native.Nat.{ℕ, _^_, _<_}
-use native.Mathlib.Omega.{arith}
 use lib.ListN.{length}
 use lib.Dec.{T, eqb, eqb→eq}
-use Rattle.algebra.specs.Lists.{Member, Ascending, countUp}
+use Rattle.algebra.specs.Lists.{Member, Ascending}
 use Rattle.algebra.proofs.Ascending.{ascending-nodup, same-ascending}
-use Rattle.algebra.proofs.Onto.{of-keep, to-keep}
-use Rattle.algebra.proofs.CountUp.{of-countUp, to-countUp, countUp-ascending, keep-ascending}
+use Rattle.algebra.proofs.CountUp.{kept-iff, kept-ascending}
 use Rattle.galois.specs.Field.{Field}
 use Rattle.galois.specs.Polynomial.{value, Coeffs, AllZero, Root}
 use Rattle.galois.specs.Roots.{isRoot, rootsOf}
@@ -18,18 +16,13 @@ use Rattle.galois.proofs.Roots.{few-roots}
 
 pub roots-iff : (m p : ℕ) (f : List ℕ) (x : ℕ) → Member x (rootsOf m p f) ↔ Root m p f x
 unfolding rootsOf isRoot
-roots-iff m p f x = (
-  λ h. let r = of-keep (isRoot p f) (countUp 0 (2 ^ m)) x h in
-      let b = of-countUp 0 (2 ^ m) x (r .0) in
-      (omega arith, eqb→eq (value p f x) 0 (r .1)),
-  λ h. let l = h .0 in
-      to-keep (isRoot p f) (countUp 0 (2 ^ m)) x (to-countUp 0 (2 ^ m) x (omega arith) (omega arith))
-      (subst (λ (v : ℕ). T (eqb v 0)) (sym (h .1)) tt),
-)
+roots-iff m p f x =
+    let k = kept-iff (isRoot p f) (2 ^ m) x in
+    (λ h. (k .0 h .0, eqb→eq (value p f x) 0 (k .0 h .1)), λ h. k .1 (h .0, subst (λ (v : ℕ). T (eqb v 0)) (sym (h .1)) tt))
 
 pub roots-ascending : (m p : ℕ) (f : List ℕ) → Ascending (rootsOf m p f)
 unfolding rootsOf
-roots-ascending m p f = keep-ascending (isRoot p f) (countUp 0 (2 ^ m)) (countUp-ascending 0 (2 ^ m))
+roots-ascending m p f = kept-ascending (isRoot p f) (2 ^ m)
 
 -- an ascending list with the roots, all of them and nothing else
 pub roots-are : (m p : ℕ) (f xs : List ℕ) → Ascending xs → ((x : ℕ) → Member x xs → Root m p f x) → ((x : ℕ) → Root m p f x → Member x xs)

@@ -13,20 +13,16 @@ use lib.Dec.{T}
 use lib.Pow.{pow-pos}
 use Rattle.algebra.specs.Lists.{Member, countUp, keep}
 use Rattle.algebra.specs.Search.{someBelow}
-use Rattle.algebra.proofs.Search.{some-not}
-use Rattle.algebra.proofs.Onto.{of-map, to-map, of-keep, to-keep}
+use Rattle.algebra.proofs.Search.{some-not, is-true}
+use Rattle.algebra.proofs.Onto.{of-map, to-map}
 use Rattle.algebra.proofs.Ascending.{same-ascending}
-use Rattle.algebra.proofs.CountUp.{of-countUp, to-countUp, countUp-ascending, countUp-length, keep-ascending, map-ascending}
+use Rattle.algebra.proofs.CountUp.{of-countUp, to-countUp, countUp-ascending, countUp-length, kept-iff, kept-ascending, map-ascending}
 use Rattle.binary.specs.Xor.{_⊕_}
 use Rattle.binary.proofs.Xor.{xor-lt}
 use Rattle.linear.specs.Directions.{choose}
 use Rattle.linear.proofs.Choose.{choose-low}
 use Rattle.linear.proofs.Echelon.{choices-ascend}
 use Rattle.linear.proofs.Canonical.{Canonical, canonical-echelon, base-tops-clear, choice-lt}
-
-is-true : (b : Bool) → T b → b ≡ true
-is-true true h = refl
-is-true false h = absurd h
 
 module _ {m : ℕ} {g : ℕ → Bool} {b : ℕ} {ds : List ℕ} (a : Canonical m g b ds) where
   pub places-ascend : (k n : ℕ) → k < n → n < 2 ^ length ds → b ⊕ choose ds k < b ⊕ choose ds n
@@ -46,7 +42,7 @@ module _ {m : ℕ} {g : ℕ → Bool} {b : ℕ} {ds : List ℕ} (a : Canonical m
       same-ascending (map place numbers) (keep g (countUp 0 (2 ^ m)))
       (map-ascending place (2 ^ length ds) places-ascend numbers (countUp-ascending 0 (2 ^ length ds))
       (λ x h. omega (arith, of-countUp 0 (2 ^ length ds) x h)))
-      (keep-ascending g (countUp 0 (2 ^ m)) (countUp-ascending 0 (2 ^ m))) there back
+      (kept-ascending g (2 ^ m)) there back
     where
       place : ℕ → ℕ
       place k = b ⊕ choose ds k
@@ -58,13 +54,12 @@ module _ {m : ℕ} {g : ℕ → Bool} {b : ℕ} {ds : List ℕ} (a : Canonical m
       there x h =
           let q = of-map place numbers x h in
           let e = q .2 in
-          to-keep g (countUp 0 (2 ^ m)) x (to-countUp 0 (2 ^ m) x (omega arith) (omega (arith, place-lt (q .0))))
-          (subst T (sym (ap g e ∙ place-root (q .0))) tt)
+          kept-iff g (2 ^ m) x .1 (omega (arith, place-lt (q .0)), subst T (sym (ap g e ∙ place-root (q .0))) tt)
 
       back : (x : ℕ) → Member x (keep g (countUp 0 (2 ^ m))) → Member x (map place numbers)
       back x h =
-          let q = of-keep g (countUp 0 (2 ^ m)) x h in
-          let r = a .roots x (omega (arith, of-countUp 0 (2 ^ m) x (q .0))) .0 (is-true (g x) (q .1)) in
+          let q = kept-iff g (2 ^ m) x .0 h in
+          let r = a .roots x (q .0) .0 (is-true (g x) (q .1)) in
           subst (λ (v : ℕ). Member v (map place numbers)) (sym (r .2))
           (to-map place numbers (r .0) (to-countUp 0 (2 ^ length ds) (r .0) (omega arith) (omega (arith, r .1))))
 

@@ -8,11 +8,9 @@ use lib.ListN.{length, getD, drop, length-append}
 use Rattle.galois.specs.Field.{Field}
 use Rattle.galois.specs.Polynomial.{value, Coeffs, sums, withoutRoot}
 use Rattle.galois.specs.Multiplicity.{multiplicityUpTo, multiplicity}
-use Rattle.galois.proofs.Divide.{withoutRoot-length, withoutRoot-coeffs}
+use Rattle.galois.proofs.Divide.{withoutRoot-length, withoutRoot-coeffs, sums-head}
 use Rattle.galois.proofs.Multiplicity.{at-root, at-other}
-use Rattle.galois.proofs.Padding.{multiplicityUpTo-pad}
-use Rattle.roots.proofs.Zeros.{coeffs-pad}
-use Rattle.roots.proofs.Division.{sums-head}
+use Rattle.galois.proofs.Padding.{multiplicityUpTo-pad, coeffs-pad}
 
 pub record Counting (m p r : ℕ) (f left : List ℕ) (k : ℕ) : Type 0 where
   pub within : k ≤ length f

@@ -14,13 +14,8 @@ use Rattle.binary.specs.Product.{product}
 use Rattle.binary.proofs.Product.{product-zero}
 use Rattle.galois.specs.Field.{Field}
 use Rattle.galois.specs.Polynomial.{value, Coeffs, sums, shifted, withRoot}
-use Rattle.galois.proofs.Polynomial.{value-lt}
-
--- the first of the values at r is that of the whole
-pub sums-head : (p r : ℕ) (f : List ℕ) → getD (sums p r f) 0 0 ≡ value p f r
-unfolding sums value
-sums-head p r [] = refl
-sums-head p r (c ∷ f) = refl
+use Rattle.galois.proofs.Polynomial.{value-lt, coeffs-drop}
+use Rattle.galois.proofs.Divide.{sums-head}
 
 pub record Dividing (p r : ℕ) (f out : List ℕ) (i : ℕ) : Type 0 where
   pub within : i < length f
@@ -30,11 +25,6 @@ pub record Dividing (p r : ℕ) (f out : List ℕ) (i : ℕ) : Type 0 where
 sums-one : (p r c : ℕ) → sums p r (c ∷ []) ≡ c ∷ []
 unfolding sums value
 sums-one p r c = ap (λ (v : ℕ). v ∷ []) (ap (λ (v : ℕ). c ⊕ v) (product-zero p r) ∙ xor-zero c)
-
-coeffs-drop : (m : ℕ) (f : List ℕ) (i : ℕ) → Coeffs m f → Coeffs m (drop i f)
-coeffs-drop m f zero h = h
-coeffs-drop m [] (suc i) h = tt
-coeffs-drop m (c ∷ f) (suc i) h = coeffs-drop m f i (h .1)
 
 dividing-value : (p r : ℕ) (f out : List ℕ) (i : ℕ) → Dividing p r f out i → getD out i 0 ≡ value p (drop i f) r
 dividing-value p r f out i g =

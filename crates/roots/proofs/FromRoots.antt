@@ -9,8 +9,8 @@ use Rattle.algebra.specs.Lists.{padded}
 use Rattle.galois.specs.Field.{Field}
 use Rattle.galois.specs.Polynomial.{Coeffs, withRoot, build}
 use Rattle.galois.proofs.Build.{build-length, build-coeffs}
+use Rattle.galois.proofs.Padding.{coeffs-pad}
 use Rattle.roots.specs.Limits.{mostRoots, mostCoefficients}
-use Rattle.roots.proofs.Zeros.{coeffs-pad}
 
 pub record Built (p : ℕ) (rs f : List ℕ) (i : ℕ) : Type 0 where
   pub within : i ≤ length rs

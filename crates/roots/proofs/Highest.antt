@@ -6,9 +6,8 @@ use Prim.Native.Nat.{ℕ, zero, suc, _≤_, _<_}
 use native.Mathlib.Decide.{ℕ-discrete}
 use native.Mathlib.Omega.{arith}
 use lib.ListN.{length, getD, List·getD-eq-default}
-use Rattle.galois.specs.Polynomial.{AllZero}
-use Rattle.roots.specs.Equation.{IsDegree}
-use Rattle.roots.proofs.Zeros.{zero-of}
+use Rattle.galois.specs.Polynomial.{AllZero, IsDegree}
+use Rattle.galois.proofs.Polynomial.{zero-of}
 
 pub record Above (f : List ℕ) (i : ℕ) : Type 0 where
   pub within : i < length f

@@ -4,7 +4,6 @@ pub mod Insertion
 pub mod Division
 pub mod Counting
 pub mod Entries
-pub mod Degree
 pub mod Highest
 pub mod FromRoots
 pub mod Gathering

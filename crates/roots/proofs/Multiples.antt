@@ -12,11 +12,12 @@ use Rattle.algebra.proofs.Places.{map-at, padded-at, filled-padded}
 use Rattle.galois.specs.Roots.{rootsOf}
 use Rattle.galois.specs.Multiplicity.{multiplicity}
 use Rattle.galois.proofs.RootList.{roots-iff, roots-few}
+use Rattle.galois.proofs.Degree.{all-once}
+use Rattle.galois.specs.Polynomial.{IsDegree}
 use Rattle.roots.specs.Limits.{mostRoots, mostCoefficients}
-use Rattle.roots.specs.Equation.{Ready, IsDegree}
+use Rattle.roots.specs.Equation.{Ready}
 use Rattle.roots.specs.Search.{foundOf}
 use Rattle.roots.specs.declared.inner.search.Found.{Found}
-use Rattle.roots.proofs.Degree.{all-once}
 
 module _ (m p : ℕ) (f : List ℕ) (R : Ready m p f) (five : length f ≡ mostCoefficients) (found : Found) (e : found ≡ foundOf (rootsOf m p f)) where
   abbrev rs : List ℕ

@@ -9,21 +9,21 @@ use lib.Dec.{ltb}
 use lib.ListN.{length, replicate, length-append, length-replicate}
 use Rattle.algebra.specs.Lists.{padded}
 use Rattle.algebra.specs.Counts.{count}
+use Rattle.algebra.proofs.Search.{same-no}
 use Rattle.binary.specs.Factor.{degreeOf}
 use Rattle.galois.specs.Field.{Field}
 use Rattle.galois.specs.Polynomial.{value, Coeffs, build, factorsAt}
 use Rattle.galois.specs.Roots.{rootsOf, elementsOf}
 use Rattle.galois.proofs.Build.{build-length, build-coeffs, build-nonzero}
 use Rattle.galois.proofs.BuildRoots.{roots-back, multiplicities-back, build-product, build-order}
-use Rattle.galois.proofs.Padding.{value-pad}
+use Rattle.galois.proofs.Padding.{value-pad, coeffs-pad, zero-pad}
 use Rattle.field.specs.Refusal.{_⇒_, refusal, gives, answerBy, anyTooLarge, polynomialTests}
-use Rattle.field.proofs.Refusal.{passes, answered-by, none-applies}
+use Rattle.field.proofs.Refusal.{passes, answered-by, none-applies, same-answer}
 use Rattle.field.proofs.Coefficients.{count-right, coefficients-small, coefficients-pass}
 use Rattle.roots.specs.Limits.{mostCoefficients, mostRoots}
 use Rattle.roots.specs.Calls.{equationTests, buildTests, solved, refusedAnswer, solveAnswer, Built, built, refusedBuilt, buildAnswer}
-use Rattle.roots.proofs.Zeros.{coeffs-pad, zero-pad, nonzero-passes, same-no, solved-pad}
+use Rattle.roots.proofs.Zeros.{nonzero-passes, solved-pad}
 use Rattle.roots.proofs.Tests.{build-passed}
-use Rattle.roots.proofs.Theorems.{same-answer}
 
 module _ (p : ℕ) (rs : List ℕ) (z : refusal (buildTests p rs) ≡ 0) where
   abbrev m : ℕ

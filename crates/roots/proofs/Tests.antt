@@ -15,6 +15,7 @@ use Rattle.algebra.specs.Lists.{padded}
 use Rattle.binary.specs.Factor.{degreeOf}
 use Rattle.galois.specs.Polynomial.{Coeffs, AllZero}
 use Rattle.galois.specs.Roots.{rootsOf}
+use Rattle.galois.proofs.Padding.{coeffs-pad, zero-pad}
 use Rattle.field.specs.Accepted.{Accepted}
 use Rattle.field.specs.Refusal.{Test, _⇒_, refusal, polynomialTests, wrongCount, listTests}
 use Rattle.field.proofs.Refusal.{then-kept, then-applies, then-passes, then-say, passes, accepted}
@@ -23,7 +24,7 @@ use Rattle.field.proofs.Ready.{ready}
 use Rattle.roots.specs.Limits.{mostCoefficients, mostRoots}
 use Rattle.roots.specs.Calls.{allZero, equationTests, buildTests, solved}
 use Rattle.roots.specs.Equation.{Ready}
-use Rattle.roots.proofs.Zeros.{coeffs-pad, zero-pad, not-all-zero, solved-pad}
+use Rattle.roots.proofs.Zeros.{not-all-zero, solved-pad}
 
 -- what each test says after those before it, as the code makes them
 module _ (p : ℕ) (cs : List ℕ) (r n : ℕ) (b : Bool) (e : r ≡ refusal (polynomialTests p)) (z : r ≡ 0)

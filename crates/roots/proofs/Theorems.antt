@@ -1,36 +1,31 @@
 -- What the answer to an equation means, for every accepted field polynomial p, its degree m a parameter: zeros above change nothing
 -- (`zeros-above`); the roots (`holds-the-roots`, `in-order`, `each-once`), their multiplicities (`largest-multiplicity`), and how many there
 -- are (`at-most-the-degree`, `count-at-most`, `count-fits`). Assumes nothing.
-use mathlib.Core.Path.{_≡_, refl, sym, ap, _∙_}
+use mathlib.Core.Path.{_≡_, sym, ap, _∙_}
 use mathlib.Core.Logic.{_↔_}
 use mathlib.Core.Bool.{Bool}
 use mathlib.Core.List.{List, [], _∷_, _++_, map}
-use Prim.Native.Nat.{ℕ, zero, suc, _≤_, _<_}
+use Prim.Native.Nat.{ℕ, zero, _≤_, _<_}
 use native.Mathlib.Omega.{arith}
 use lib.ListN.{length, replicate, length-append}
 use Rattle.algebra.specs.Lists.{Member, Nodup, Ascending}
-use Rattle.algebra.specs.Counts.{total}
+use Rattle.algebra.specs.Counts.{sumOf}
 use Rattle.algebra.proofs.Ascending.{ascending-nodup}
 use Rattle.binary.specs.Factor.{degreeOf}
 use Rattle.galois.specs.Field.{Field}
-use Rattle.galois.specs.Polynomial.{Root}
+use Rattle.galois.specs.Polynomial.{Root, IsDegree}
 use Rattle.galois.specs.Roots.{rootsOf}
 use Rattle.galois.specs.Multiplicity.{multiplicity, PowerDivides}
 use Rattle.galois.proofs.RootList.{roots-iff, roots-ascending, roots-few}
 use Rattle.galois.proofs.Largest.{multiplicity-divides, multiplicity-largest}
+use Rattle.galois.proofs.Degree.{has-degree, total-at-most, roots-at-most}
 use Rattle.field.specs.Refusal.{Test, _⇒_, refusal, answerBy, anyTooLarge, polynomialTests, wrongCount}
 use Rattle.field.proofs.Coefficients.{count-right}
+use Rattle.field.proofs.Refusal.{same-answer}
 use Rattle.roots.specs.Limits.{mostCoefficients, mostRoots}
 use Rattle.roots.specs.Calls.{allZero, equationTests, refusedAnswer, solved, solveAnswer}
-use Rattle.roots.specs.Equation.{IsDegree}
 use Rattle.roots.proofs.Zeros.{large-pad, zero-test-pad, solved-pad}
 use Rattle.roots.proofs.Tests.{Passed, equation-passed}
-use Rattle.roots.proofs.Degree.{has-degree, total-at-most, roots-at-most}
-
--- a call that is not turned down answers by its value alone
-pub same-answer : {A : Type 0} (r : ℕ) (refused : ℕ → A) (v w : A) → (r ≡ 0 → v ≡ w) → answerBy r refused v ≡ answerBy r refused w
-same-answer zero refused v w h = h refl
-same-answer (suc r) refused v w h = refl
 
 -- "zeros above it change nothing", neither an answer nor a refusal
 module _ (p : ℕ) (cs : List ℕ) (n : ℕ) (some : 0 < length cs) (few : length (cs ++ replicate n 0) ≤ mostCoefficients) where
@@ -85,7 +80,7 @@ module _ (p : ℕ) (cs : List ℕ) (z : refusal (equationTests p cs) ≡ 0) wher
   pub its-degree : (d : ℕ) × IsDegree d cs
   its-degree = has-degree cs (P .nonzero)
 
-  pub at-most-the-degree : (d : ℕ) → IsDegree d cs → total (map (λ r. multiplicity p r cs) rs) ≤ d
+  pub at-most-the-degree : (d : ℕ) → IsDegree d cs → sumOf (map (λ r. multiplicity p r cs) rs) ≤ d
   at-most-the-degree d D = total-at-most d cs D m p F (P .small)
 
   pub count-at-most : (d : ℕ) → IsDegree d cs → length rs ≤ d

@@ -1,56 +1,28 @@
--- Zeros above the coefficients of an equation: they are elements (`coeffs-pad`), no test sees them (`large-pad`, `zero-test-pad`), and the
--- answer is the same (`solved-pad`); what the test of all coefficients says (`all-zero-iff`). Assumes nothing.
-use mathlib.Core.Path.{_≡_, refl, sym, ap, _∙_, subst}
+-- Zeros above the coefficients of an equation: no test sees them (`large-pad`, `zero-test-pad`), and the answer is the same (`solved-pad`).
+-- What the test of all coefficients says (`all-zero-iff`), and that it never meets the one before it (`large-not-zero`). Assumes nothing.
+use mathlib.Core.Path.{_≡_, sym, ap, _∙_, subst}
 use mathlib.Core.Logic.{_↔_}
-use mathlib.Core.Bool.{Bool, true, false, false≢true}
+use mathlib.Core.Bool.{true, false, false≢true}
 use mathlib.Core.List.{List, [], _∷_, _++_}
-use Prim.Native.Nat.{ℕ, zero, suc, _<_}
-use native.Mathlib.Omega.{arith}
+use Prim.Native.Nat.{ℕ}
 use borrow.Author.Tests.{eq-eqb}
 use lib.Dec.{T, eqb, eqb→eq}
 use lib.ListN.{length, getD, replicate}
 use lib.Pow.{pow-pos}
 use Rattle.algebra.specs.Lists.{padded}
 use Rattle.algebra.proofs.Onto.{map-alike}
-use Rattle.algebra.proofs.Search.{every-below, every-at, same-test}
+use Rattle.algebra.proofs.Search.{every-below, every-at, same-test, same-no}
 use Rattle.binary.specs.Factor.{degreeOf}
 use Rattle.galois.specs.Field.{Field}
 use Rattle.galois.specs.Polynomial.{Coeffs, AllZero}
 use Rattle.galois.specs.Roots.{rootsOf}
 use Rattle.galois.specs.Multiplicity.{multiplicity}
-use Rattle.galois.proofs.Padding.{roots-pad, multiplicity-pad}
+use Rattle.galois.proofs.Padding.{roots-pad, multiplicity-pad, coeffs-pad, coeffs-front, pad-zero, zero-pad}
+use Rattle.galois.proofs.Polynomial.{zero-at, zero-of}
 use Rattle.field.specs.Refusal.{gives, anyTooLarge}
 use Rattle.field.proofs.Coefficients.{coefficients-small, coefficients-pass}
 use Rattle.roots.specs.Limits.{mostRoots}
 use Rattle.roots.specs.Calls.{allZero, solved}
-
-pub coeffs-pad : (m : ℕ) (f : List ℕ) (n : ℕ) → Coeffs m f → Coeffs m (f ++ replicate n 0)
-coeffs-pad m [] zero h = tt
-coeffs-pad m [] (suc n) h = (pow-pos m, coeffs-pad m [] n tt)
-coeffs-pad m (c ∷ f) n h = (h .0, coeffs-pad m f n (h .1))
-
-coeffs-front : (m : ℕ) (f : List ℕ) (n : ℕ) → Coeffs m (f ++ replicate n 0) → Coeffs m f
-coeffs-front m [] n h = tt
-coeffs-front m (c ∷ f) n h = (h .0, coeffs-front m f n (h .1))
-
-pad-zero : (f : List ℕ) (n : ℕ) → AllZero f → AllZero (f ++ replicate n 0)
-pad-zero [] zero z = tt
-pad-zero [] (suc n) z = (refl, pad-zero [] n tt)
-pad-zero (c ∷ f) n z = (z .0, pad-zero f n (z .1))
-
-pub zero-pad : (f : List ℕ) (n : ℕ) → AllZero (f ++ replicate n 0) → AllZero f
-zero-pad [] n z = tt
-zero-pad (c ∷ f) n z = (z .0, zero-pad f n (z .1))
-
--- all zero, place by place
-pub zero-at : (f : List ℕ) (i : ℕ) → AllZero f → getD f i 0 ≡ 0
-zero-at [] i z = refl
-zero-at (c ∷ f) zero z = z .0
-zero-at (c ∷ f) (suc i) z = zero-at f i (z .1)
-
-pub zero-of : (f : List ℕ) → ((i : ℕ) → i < length f → getD f i 0 ≡ 0) → AllZero f
-zero-of [] h = tt
-zero-of (c ∷ f) h = (h 0 (omega arith), zero-of f (λ i l. h (suc i) (omega arith)))
 
 pub all-zero-iff : (f : List ℕ) → (allZero f ≡ true) ↔ AllZero f
 unfolding allZero
@@ -64,12 +36,6 @@ not-all-zero f e z = false≢true (sym e ∙ all-zero-iff f .1 z)
 
 pub nonzero-passes : (f : List ℕ) → (AllZero f → ⊥) → allZero f ≡ false
 nonzero-passes f n = same-test (allZero f) false (λ e. absurd (n (all-zero-iff f .0 e)), λ e. absurd (false≢true e))
-
--- tests that say no to the same
-pub same-no : (a b : Bool) → (a ≡ false) ↔ (b ≡ false) → a ≡ b
-same-no false b h = sym (h .0 refl)
-same-no true false h = h .1 refl
-same-no true true h = refl
 
 pub large-pad : (p : ℕ) (f : List ℕ) (n : ℕ) → anyTooLarge p (f ++ replicate n 0) ≡ anyTooLarge p f
 large-pad p f n =

@@ -1,11 +1,8 @@
 -- What the code asks of an equation, and the steps from it to its candidates (E1 to E4). Assumes nothing.
-use mathlib.Core.Path.{_≡_}
-use mathlib.Core.Logic.{_≢_}
 use mathlib.Core.Bool.{Bool, true, false}
 use mathlib.Core.List.{List, [], _∷_}
 use Prim.Native.Nat.{ℕ, _-_, _^_, _≤_, _<_}
 use lib.Dec.{eqb}
-use lib.ListN.{length, getD}
 use Rattle.algebra.specs.Lists.{Member, Nodup}
 use Rattle.binary.specs.Xor.{_⊕_}
 use Rattle.linear.specs.Limits.{places}
@@ -50,9 +47,3 @@ fromInverse m p s y = s ⊕ quotientOf m p 1 y
 -- elements that have an inverse
 abbrev pub Units : ℕ → List ℕ → Type 0
 Units m ys = (y : ℕ) → Member y ys → (0 < y) × (y < 2 ^ m)
-
--- "the degree is that of the highest nonzero one; zeros above it change nothing"
-pub record IsDegree (d : ℕ) (f : List ℕ) : Type 0 where
-  pub within : d < length f
-  pub top : getD f d 0 ≢ 0
-  pub above : (i : ℕ) → d < i → getD f i 0 ≡ 0

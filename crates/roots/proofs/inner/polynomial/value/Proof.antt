@@ -4,7 +4,7 @@ use mathlib.Core.List.{List}
 use Prim.Native.Nat.{ℕ}
 use borrow.Author.Needs.{needs}
 use lib.ListN.{getD}
-use Rattle.roots.proofs.Division.{sums-head}
+use Rattle.galois.proofs.Divide.{sums-head}
 use Rattle.roots.proofs.inner.polynomial.value.Statement.{statement}
 use Rattle.roots.proofs.inner.polynomial.value.Tie as tie
 

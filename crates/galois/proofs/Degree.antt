@@ -10,20 +10,18 @@ use native.Mathlib.Omega.{arith}
 use lib.ListN.{length, getD, take, drop, replicate, take-append-drop}
 use lib.Seq.{length-take-le, getD-take, getD-drop}
 use Rattle.algebra.specs.Lists.{Member, Nodup}
-use Rattle.algebra.specs.Counts.{total}
+use Rattle.algebra.specs.Counts.{sumOf}
 use Rattle.algebra.proofs.Onto.{map-alike}
 use Rattle.algebra.proofs.Ascending.{ascending-nodup}
 use Rattle.galois.specs.Field.{Field}
-use Rattle.galois.specs.Polynomial.{Coeffs, AllZero, Root}
+use Rattle.galois.specs.Polynomial.{Coeffs, AllZero, IsDegree, Root}
 use Rattle.galois.specs.Roots.{rootsOf}
 use Rattle.galois.specs.Multiplicity.{multiplicity}
-use Rattle.galois.proofs.Polynomial.{coeff-at, coeffs-of}
+use Rattle.galois.proofs.Polynomial.{coeff-at, coeffs-of, zero-at}
 use Rattle.galois.proofs.Padding.{roots-pad, multiplicity-pad}
 use Rattle.galois.proofs.RootList.{roots-iff, roots-ascending, roots-few}
 use Rattle.galois.proofs.Simple.{all-simple}
 use Rattle.galois.proofs.Largest.{roots-total}
-use Rattle.roots.specs.Equation.{IsDegree}
-use Rattle.roots.proofs.Zeros.{zero-at}
 
 zeros-are : (f : List ℕ) → ((i : ℕ) → getD f i 0 ≡ 0) → f ≡ replicate (length f) 0
 zeros-are [] h = refl
@@ -94,9 +92,9 @@ module _ (d : ℕ) (f : List ℕ) (D : IsDegree d f) where
     same-multiplicity : (r : ℕ) → multiplicity p r f ≡ multiplicity p r front
     same-multiplicity r = ap (multiplicity p r) degree-split ∙ multiplicity-pad m p F r spare front front-nonzero
 
-    pub total-at-most : total (map (λ r. multiplicity p r f) (rootsOf m p f)) ≤ d
+    pub total-at-most : sumOf (map (λ r. multiplicity p r f) (rootsOf m p f)) ≤ d
     total-at-most =
-        let e = ap total (map-alike (λ r. multiplicity p r f) (λ r. multiplicity p r front) (rootsOf m p f) (λ r k. same-multiplicity r)
+        let e = ap sumOf (map-alike (λ r. multiplicity p r f) (λ r. multiplicity p r front) (rootsOf m p f) (λ r k. same-multiplicity r)
         ∙ ap (map (λ r. multiplicity p r front)) same-roots) in
         let l = roots-total m p F front front-small front-nonzero in
         let n = front-length in
