@@ -1,8 +1,8 @@
 #!/usr/bin/env python3
 """Makes the rows of the program `vectors` and the answers that they must get: crates/vectors/stdin and crates/vectors/stdout.
 
-It shares no code with the library. Quotients, inverses and square roots are found by trying every element, numbers by walking through
-the powers of x; products, powers and traces are computed from their definitions in document 01, whose list the house rows are.
+The answers are those of tests/model.py, which shares no code with the library; the house rows, and what document 01's table of values says,
+are copied from that document.
 
 usage: tests/vectors.py          writes the two files
        tests/vectors.py --check  says whether the stored files are what it would write
@@ -10,105 +10,115 @@ usage: tests/vectors.py          writes the two files
 import os
 import random
 import sys
+from collections import Counter
+from itertools import combinations, product
+
+from model import CALLS, LISTS, affine_terms, field_of, refusals
 
 HOUSE = [7, 11, 19, 37, 67, 131, 285, 529, 1033, 2053, 4179, 8219, 17475, 32771, 69643]
-LOWEST, HIGHEST = -(2**31), 2**31 - 1
-HERE = os.path.join(os.path.dirname(os.path.abspath(__file__)), "..", "crates", "vectors")
-
-
-def remainder(a, p):
-    while a.bit_length() >= p.bit_length():
-        a ^= p << (a.bit_length() - p.bit_length())
-    return a
-
-
-class Field:
-    def __init__(self, p):
-        self.p, self.m = p, p.bit_length() - 1
-        self.size = 1 << self.m
-
-    def product(self, a, b):
-        whole = 0
-        for i in range(b.bit_length()):
-            whole ^= (a << i) * (b >> i & 1)
-        return remainder(whole, self.p)
-
-    def quotient(self, a, b):
-        return next(q for q in range(self.size) if self.product(q, b) == a)
-
-    def power(self, a, e):
-        if e < 0:
-            a, e = self.quotient(1, a), -e
-        result = 1
-        while e:
-            if e & 1:
-                result = self.product(result, a)
-            a, e = self.product(a, a), e >> 1
-        return result
-
-    def root(self, b):
-        return next(r for r in range(self.size) if self.product(r, r) == b)
-
-    def trace(self, c):
-        total = 0
-        for _ in range(self.m):
-            total, c = total ^ c, self.product(c, c)
-        return total
-
-    def number(self, a):
-        x = 1
-        for e in range(self.size - 1):
-            if x == a:
-                return e + 1
-            x = self.product(x, 2)
-        return 0
-
-    def element(self, n):
-        return 0 if n == 0 else self.power(2, n - 1)
-
-
-def refusals(call, v):
-    """Every number of document 01's table that applies to a call in a field, in the table's order."""
-    p, found = v[0], []
-    if p < 4 or p >= 131072:
-        found.append(1)
-    if p >= 4 and any(remainder(p, d) == 0 for d in range(2, min(p, 1 << (p.bit_length() - 1) // 2 + 1))):
-        found.append(2)
-    elements = {"accept": [], "xpower": [], "power": v[1:2]}.get(call, v[1:])
-    if p > 0 and any(a >= 1 << (p.bit_length() - 1) for a in elements):
-        found.append(4)
-    if (call == "quotient" and v[2] == 0) or (call == "power" and v[1] == 0 and v[2] < 0):
-        found.append(6)
-    return found
-
-
-CALLS = {
-    "accept": lambda k: k.m,
-    "sum": lambda k, a, b: a ^ b,
-    "product": Field.product,
-    "quotient": Field.quotient,
-    "power": Field.power,
-    "root": Field.root,
-    "trace": Field.trace,
-    "number": Field.number,
-    "element": Field.element,
-    "xpower": lambda k, e: k.power(2, e),
+# another polynomial of each degree from 3 on; x does not generate the field of most of them
+OTHERS = [13, 31, 61, 73, 247, 283, 515, 1039, 2243, 4105, 8231, 16417, 32879, 65579]
+# the numbers that each call can be turned down by
+NUMBERS = {
+    **{call: [1, 2] for call in ["accept", "xpower"]},
+    **{call: [1, 2, 4] for call in ["sum", "product", "root", "trace", "number", "element"]},
+    **{call: [1, 2, 4, 6] for call in ["quotient", "power"]},
+    **{call: [1, 2, 3, 4] for call in ["build", "affine"]},
+    **{call: [1, 2, 3, 4, 7] for call in ["place", "list"]},
+    "solve": [1, 2, 3, 4, 5],
 }
-rows, pairs = [], {call: set() for call in CALLS}
+# the two of them that cannot meet: what is too large is not 0
+APART = {"power": {(4, 6)}, "solve": {(4, 5)}}
+# which of four drawn elements the roots of an equation are: every way in which some of them are the same
+REPEATS = ["", "0", "01", "00", "012", "010", "000", "0123", "0120", "0110", "0100", "0000"]
+LOWEST, HIGHEST = -(2**31), 2**31 - 1
+LARGEST = 2**32 - 1
+# what the program fills a lent list with, how many entries it lends at most, and how many bytes of rows it reads
+FILLING, LENT, READ = 4242, 20, 65536
+HERE = os.path.join(os.path.dirname(os.path.abspath(__file__)), "..", "crates", "vectors")
+rows, first, pairs = {}, {call: set() for call in CALLS}, {call: set() for call in CALLS}
 
 
 def row(call, *v):
+    """One row more; what it must get."""
     found = refusals(call, v)
-    pairs[call] |= {(a, b) for a in found for b in found if a < b}
-    rows.append((" ".join([call, *map(str, v)]), f"turned down by {found[0]}" if found else str(CALLS[call](Field(v[0]), *v[1:]))))
+    first[call] |= set(found[:1])
+    pairs[call] |= set(combinations(found, 2))
+    said = f"turned down by {found[0]}" if found else str(CALLS[call](field_of(v[0]), *v[1:]))
+    if call == "list":
+        listed = [] if found else field_of(v[0]).roots(affine_terms(v[2:]))
+        said += ", list" + "".join(f" {entry}" for entry in [*listed, *[FILLING] * (v[1] - len(listed))])
+    rows[" ".join([call, *map(str, v)])] = said
+    return said
 
 
-# the table of values and its neighbours
-for p in [0, 3, 4, 5, 6, 7, 19, 21, 31, 69643, 131071, 131072, 2**32 - 1]:
+def list_row(call, p, *entries):
+    """The same of a call with a list, for the first place and room for 16 roots."""
+    return row(call, p, *{"place": [0], "list": [16]}.get(call, []), *entries)
+
+
+def affine_rows(p, coefficients):
+    """The three calls of an equation: around the last place, and with lists an entry too short, just long enough and longer."""
+    row("affine", p, *coefficients)
+    count = len(field_of(p).roots(affine_terms(coefficients)))
+    around = range(max(count - 1, 0), count + 1)
+    for n in [*around, LARGEST]:
+        row("place", p, n, *coefficients)
+    for room in [*around, count + 2]:
+        row("list", p, room, *coefficients)
+
+
+def vanishing(k, elements):
+    """The coefficients l0, l1, .. of an affine polynomial L that is 0 at all sums of the elements: L² + L(a)·L for each a more."""
+    l = [1]
+    for a in elements:
+        value = k.value(affine_terms([0, *l]), a)
+        l = [c ^ k.product(lower, lower) for c, lower in zip([*k.times(value, l), 0], [0, *l])]
+    return l
+
+
+# the table of values
+TABLE = {
+    "solve 19 14 8 1": "3x1 11x1",
+    "solve 37 31 1 1": "24x1 25x1",
+    "solve 37 23 1 1": "no root",
+    "trace 37 23": "1",
+    "solve 19 1 1 1": "6x1 7x1",
+    "solve 19 8 0 0 1": "2x1 12x1 14x1",
+    "solve 19 2 0 0 1": "no root",
+    "solve 11 2 0 0 1": "7x1",
+    "solve 19 0 1 0 1": "0x1 1x2",
+    "solve 19 0 1 1 1 1": "0x1 1x3",
+    "solve 19 3 0 0 0 1": "2x4",
+    "affine 37 31 1 1": "found, k 1, base 24, directions 1",
+    "power 19 2 -1": "9",
+    "number 31 3": "0",
+    "number 19 15": "13",
+    "solve 19 6 1 1 0 0": "2x1 3x1",
+}
+for name, said in TABLE.items():
+    call, *v = name.split()
+    assert row(call, *map(int, v)) == said, name
+# its last two rows, for every call that they apply to
+ANY = {"accept": [], "sum": [1, 2], "product": [2, 3], "quotient": [1, 2], "power": [2, -1], "root": [2], "trace": [2], "number": [3]}
+ANY |= {"element": [3], "xpower": [-1], "solve": [1, 1, 1], "build": [1, 2, 3]}
+ANY |= {"affine": [2, 1, 1], "place": [0, 0, 2, 1], "list": [2, 0, 2, 1]}
+for call, v in ANY.items():
+    for p, number in [(3, 1), (4, 2), (131072, 1)]:
+        assert row(call, p, *v).startswith(f"turned down by {number}"), (call, p)
+    assert "turned down" not in row(call, 7, *v), call
+for call, length in {"solve": 5, "build": 4, "affine": 5, "place": 5, "list": 5}.items():
+    for place in range(length):
+        before, after = [0, 1, 0, 0, 0][:place], [0, 1, 0, 0, 0][place + 1 : length]
+        assert "turned down" not in list_row(call, 19, *before, 15, *after), (call, place)
+        assert list_row(call, 19, *before, 16, *after).startswith("turned down by 4"), (call, place)
+
+# the arithmetic around the table, and the house
+for p in [0, 3, 4, 5, 6, 7, 19, 21, 31, 69643, 131071, 131072, LARGEST]:
     row("accept", p)
 for v in [(19, 14, 8), (19, 15, 15), (19, 16, 1), (19, 1, 16), (69643, 54321, 65535)]:
     row("sum", *v)
-for v in [(19, 14, 8), (19, 15, 15), (19, 0, 7), (31, 3, 3), (69643, 54321, 12345), (69643, 65535, 65535), (69643, 65536, 1), (19, 1, 2**32 - 1)]:
+for v in [(19, 14, 8), (19, 15, 15), (19, 0, 7), (31, 3, 3), (69643, 54321, 12345), (69643, 65535, 65535), (69643, 65536, 1), (19, 1, LARGEST)]:
     row("product", *v)
 for v in [(19, 1, 2), (19, 14, 8), (19, 0, 5), (31, 7, 3), (69643, 54321, 12345), (19, 5, 0), (19, 0, 0), (19, 0, 16)]:
     row("quotient", *v)
@@ -126,10 +136,10 @@ for v in [(19, 0), (19, 1), (19, 13), (19, 15), (19, 16), (31, 6), (31, 15), (69
     row("element", *v)
 for v in [(19, -1), (19, 0), (19, 14), (19, LOWEST), (31, 5), (69643, 65535)]:
     row("xpower", *v)
-for d in [0, 1, *range(2, 17), 17, 2**32 - 1]:
-    rows.append((f"house {d}", str(HOUSE[d - 2]) if 2 <= d <= 16 else "turned down by 1"))
+for d in [0, 1, *range(2, 17), 17, LARGEST]:
+    rows[f"house {d}"] = str(HOUSE[d - 2]) if 2 <= d <= 16 else "turned down by 1"
 
-# every order of refusals: 1 alone, 1 with 2, 2 alone and none, against 4 and 6 in every mixture
+# every order of refusals: 1 alone, 1 with 2, 2 alone and none, against 3 to 7 in every mixture
 for p in [3, 131072, 21, 19]:
     large = 1 << p.bit_length()
     for a in [1, large]:
@@ -143,16 +153,22 @@ for p in [3, 131072, 21, 19]:
     for a in [0, 1, large]:
         row("power", p, a, -1)
     row("xpower", p, -1)
-one = {(1, 2), (1, 4), (2, 4)}
-assert pairs == {
-    **{call: one for call in ["sum", "product", "root", "trace", "number", "element"]},
-    **{"accept": {(1, 2)}, "xpower": {(1, 2)}, "quotient": one | {(1, 6), (2, 6), (4, 6)}, "power": one | {(1, 6), (2, 6)}},
-}, "a pair of refusals that can meet is not among the rows"
+    # no entry, all of them 0, faultless ones, one too large; too many that are 0, and with one too large
+    for entries in [[], [0, 0], [0, 1], [0, large], [0] * 20, [0, large] * 10]:
+        for call in ["solve", "build", "affine"]:
+            row(call, p, *entries)
+        for n in [0, LARGEST]:
+            row("place", p, n, *entries)
+        for room in [0, 8]:
+            row("list", p, room, *entries)
+for call, numbers in NUMBERS.items():
+    assert first[call] == set(numbers), f"a number that {call} can be turned down by is not among the rows"
+    assert pairs[call] == set(combinations(numbers, 2)) - APART.get(call, set()), f"two that can meet in {call} are not among the rows"
 
 # every m, on chosen elements
 random.seed(7)
 for m, p in enumerate(HOUSE, 2):
-    field, size = Field(p), 1 << m
+    field, size = field_of(p), 1 << m
     row("accept", p)
     row("xpower", p, size - 1)
     row("number", p, field.power(2, size - 2))
@@ -166,9 +182,45 @@ for m, p in enumerate(HOUSE, 2):
     row("product", p, size, 1)
     row("element", p, size)
 
-# an unknown call, an empty row, and a last row without a line end
-rows += [("cube 19 2", "turned down by 8"), ("", "turned down by 8"), ("house 16", "69643")]
-files = {"stdin": "\n".join(name for name, _ in rows), "stdout": "".join(f"{name}: {said}\n" for name, said in rows)}
+# lists as long as they may be and longer, entries as large as they may be and larger, and as many roots as there can be
+for p in [19, 69643]:
+    for length in range(7):
+        row("solve", p, *range(1, length + 1))
+        row("build", p, *range(length))
+    for call, entry in product(LISTS, [65535, 65536, LARGEST]):
+        list_row(call, p, 1, entry)
+for m, p in enumerate(HOUSE, 2):
+    for call, length in product(["affine", "place", "list"], [m + 1, m + 2]):
+        list_row(call, p, *[1] * length)
+    for call, entry in product(LISTS, [2**m - 1, 2**m]):
+        list_row(call, p, 0, 1, entry)
+    row("affine", p, *[0] * (m + 1))
+    row("place", p, 2**m - 1, 0)
+    row("place", p, 2**m, 0)
+
+# in every field, equations with many roots, with none, and any
+for p in sorted(HOUSE + OTHERS):
+    k = field_of(p)
+    for _ in range(6 if k.m < 9 else 3):
+        drawn, leading = random.choices(range(k.size), k=4), random.randrange(1, k.size)
+        roots = [drawn[int(digit)] for digit in random.choice(REPEATS)]
+        coefficients = k.times(leading, k.built(roots))
+        row("build", p, *roots)
+        row("solve", p, *coefficients, *[0] * random.randrange(6 - len(coefficients)))
+        row("solve", p, *drawn[: random.randrange(5)], leading)
+    l = k.times(leading, vanishing(k, [leading, *drawn[: random.randrange(min(k.m - 1, 4))]]))
+    values = {k.value(affine_terms([0, *l]), x) for x in range(k.size)}
+    affine_rows(p, [random.choice(sorted(values)), *l])
+    affine_rows(p, [random.choice(sorted(set(range(k.size)) - values)), *l])
+    row("affine", p, *random.choices(range(k.size), k=k.m + 1))
+
+# what is no call, and a last row without a line end
+unknown = ["cube 19 2", "", " ", "19 2", "sums 19 1 2", "xquotient 19 1 2", "sum 19 1 2x", "sum 19 4294967296 1"]
+for name in [*unknown, f"list 19 {LENT + 1} 0 1", "solve 19" + " 1" * 22]:
+    rows[name] = "turned down by 8"
+rows["house 18"] = "turned down by 1"
+files = {"stdin": "\n".join(rows), "stdout": "".join(f"{name}: {said}\n" for name, said in rows.items())}
+assert len(files["stdin"]) <= READ
 for name, text in files.items():
     path = os.path.join(HERE, name)
     if "--check" in sys.argv:
@@ -177,4 +229,5 @@ for name, text in files.items():
     else:
         with open(path, "w", encoding="ascii") as out:
             out.write(text)
-print(len(rows), "rows")
+counts = Counter(name.split(" ")[0] for name in rows)
+print(len(rows), "rows:", ", ".join(f"{counts[call]} {call}" for call in [*CALLS, "house"]))

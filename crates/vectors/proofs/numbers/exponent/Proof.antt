@@ -7,8 +7,8 @@ use mir.Syntax.{w32}
 use mir.Val.{SFits}
 use mir.Facts.{toZ-pos}
 use borrow.Author.Needs.{needs}
-use Rattle.vectors.proofs.exponent.Statement.{statement}
-use Rattle.vectors.proofs.exponent.Tie as tie
+use Rattle.vectors.proofs.numbers.exponent.Statement.{statement}
+use Rattle.vectors.proofs.numbers.exponent.Tie as tie
 
 flipped : (n : ℕ) → n < 2 ^ 31 → SFits w32 (pos 0 -ℤ pos n)
 flipped zero h = record { sfits = omega arith }

@@ -1,0 +1,14 @@
+pub mod Characters
+pub mod Malformed
+pub mod Coefficients
+pub mod Writing
+pub mod Answered
+pub mod Fitting
+pub mod Called
+pub mod Feeds
+pub mod Keeping
+pub mod Held
+pub mod OneCall
+pub mod Lines
+pub mod Begun
+pub mod Cuts

@@ -1,0 +1,28 @@
+-- `answer_line` meets its contract. Assumes nothing.
+use mathlib.Core.Path.{ap, sym, _∙_}
+use Prim.Native.Nat.{ℕ, _*_}
+use native.Mathlib.Omega.{arith}
+use Rattle.frames.specs.Answer.{answerBytes, answerText}
+use Rattle.frames.proofs.Writing.{text-length, put-text}
+use Rattle.frames.proofs.Fitting.{answer-short}
+use borrow.Author.Needs.{needs}
+use Rattle.frames.proofs.answer_line.Statement.{statement}
+use Rattle.frames.proofs.answer_line.Tie as tie
+
+put-answer-requires : tie.Need-put-answer-requires
+put-answer-requires c κs = search needs
+
+mul-result : tie.Need-mul-result
+mul-result c =
+    let few = answer-short (c .before .before .before .args .line .now) in
+    omega (arith, few, c .put-answer .ensures .0)
+
+returns : tie.Need-returns
+unfolding answerText
+returns c =
+    let l = c .before .before .before .args .line .now in
+    let e = c .put-answer .ensures in
+    (ap (λ (n : ℕ). 2 * n) (e .0) ∙ sym (text-length (answerBytes l)), (put-text _ (answerBytes l) (e .1), omega (arith, answer-short l, e .0)))
+
+pub answer-line-spec : {M : Type 1} → statement M
+answer-line-spec = tie.close (tie.spec put-answer-requires mul-result returns)

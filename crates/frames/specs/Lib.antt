@@ -1,0 +1,5 @@
+pub mod Limits
+pub mod Frame
+pub mod Text
+pub mod Answer
+pub mod Stream
