@@ -1,10 +1,9 @@
 -- The bytes of an answer, case by case: what the code puts for a case is what the definition says of it. Assumes nothing.
 use mathlib.Core.Path.{_≡_, refl, sym, ap, subst, _∙_}
-use mathlib.Core.Bool.{true, false}
 use mathlib.Core.List.{List, [], _∷_, _++_}
 use Prim.Native.Nat.{ℕ, suc, _+_, _*_, _≤_}
 use native.Mathlib.Omega.{arith}
-use lib.ListN.{length, length-append}
+use lib.ListN.{length}
 use Rattle.linear.specs.Limits.{places}
 use Rattle.affine.specs.Answers.{ofSpace, ofAffine}
 use Rattle.affine.specs.declared.RootSpace.{RootSpace}

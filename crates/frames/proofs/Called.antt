@@ -1,13 +1,13 @@
 -- The answer to a line: malformed (`line-refused`), or by the call of its kind (`called-roots`, `called-affine`, `line-called`). Assumes
 -- nothing.
-use mathlib.Core.Path.{_≡_, refl, sym, ap, ap₂, subst, _∙_}
+use mathlib.Core.Path.{_≡_, sym, ap, ap₂, _∙_}
 use mathlib.Core.Logic.{_≢_}
-use mathlib.Core.Bool.{Bool, true, false}
+use mathlib.Core.Bool.{Bool}
 use mathlib.Core.List.{List, [], _∷_}
-use Prim.Native.Nat.{ℕ, _≤_}
+use Prim.Native.Nat.{ℕ}
 use borrow.Author.Tests.{eq-eqb, ne-eqb}
 use lib.Dec.{eqb}
-use lib.ListN.{length, take, replicate}
+use lib.ListN.{length, take}
 use lib.Seq.{take-at}
 use Rattle.algebra.specs.Lists.{padded}
 use Rattle.field.specs.Refusal.{refusal}
@@ -18,8 +18,8 @@ use Rattle.frames.specs.Limits.{mostCounted}
 use Rattle.frames.specs.Frame.{kindOf, polynomialOf, countOf, coefficientsOf, lineTests}
 use Rattle.frames.specs.Text.{putBytes}
 use Rattle.frames.specs.Answer.{rootsBytes, affineBytes, calledBytes, answerBytes}
-use Rattle.frames.proofs.Answered.{Put, same-bytes}
 use Rattle.frames.proofs.Coefficients.{coefficient-count}
+use Rattle.frames.proofs.Answered.{Put, same-bytes}
 
 module _ (k p : ℕ) (cs out : List ℕ) {r : ℕ} {end : List ℕ} where
   pub called-roots : (a : roots.Answer) → k ≡ 1 → a ≡ roots.solveAnswer p cs → r ≡ length (rootsBytes a) → end ≡ putBytes out 0 (rootsBytes a)

@@ -1,6 +1,6 @@
 -- The coefficients of a line: how many (`coefficient-count`), and each (`coefficient-is`); a line that no test turns down is well formed
 -- (`is-well-formed`). Assumes nothing.
-use mathlib.Core.Path.{_≡_, refl, sym, ap, _∙_}
+use mathlib.Core.Path.{_≡_, sym, ap, _∙_}
 use mathlib.Core.Logic.{_≢_}
 use mathlib.Core.Bool.{not}
 use mathlib.Core.List.{List, map}

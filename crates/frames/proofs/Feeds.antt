@@ -1,6 +1,6 @@
 -- The bytes before the first line feed, as a loop finds them: `feed-turn`, `feed-found`, `feed-end`; they stand at the front
 -- (`feed-front`, `feed-within`). Assumes nothing.
-use mathlib.Core.Path.{_≡_, refl, sym, ap, _∙_}
+use mathlib.Core.Path.{_≡_, refl, ap, _∙_}
 use mathlib.Core.Logic.{_≢_}
 use mathlib.Core.Bool.{Bool, true, false}
 use mathlib.Core.List.{List, [], _∷_}

@@ -1,22 +1,21 @@
 -- Every answer fits its places: roots (`roots-fit`), directions (`directions-fit`), and the text of an answer its room (`answer-short`).
 -- Assumes nothing.
-use mathlib.Core.Path.{_≡_, refl, sym, ap, _∙_}
+use mathlib.Core.Path.{_≡_, refl, ap}
 use mathlib.Core.Bool.{Bool, true, false}
-use mathlib.Core.List.{List, [], _∷_, _++_}
+use mathlib.Core.List.{List, [], _∷_}
 use Prim.Native.Nat.{ℕ, zero, suc, _+_, _*_, _^_, _≤_}
 use native.Mathlib.Omega.{arith}
 use lib.Dec.{eqb}
 use lib.ListN.{length, length-append}
 use Rattle.algebra.specs.Search.{someBelow}
 use Rattle.binary.specs.Factor.{degreeOf}
-use Rattle.galois.specs.Roots.{rootsOf}
-use Rattle.field.specs.Refusal.{refusal, Outcome, turnedDown, gives, answerBy}
 use Rattle.linear.specs.Limits.{places}
 use Rattle.linear.proofs.Listed.{directions-length}
+use Rattle.galois.specs.Roots.{rootsOf}
+use Rattle.field.specs.Refusal.{refusal, Outcome, turnedDown, gives, answerBy}
 use Rattle.affine.specs.Equation.{isRoot, isDirection, baseOf, directionsOf}
 use Rattle.affine.specs.Calls as affine
 use Rattle.affine.proofs.Tests.{equation-ready}
-use Rattle.roots.specs.Limits.{mostRoots}
 use Rattle.roots.specs.Calls as roots
 use Rattle.roots.proofs.Theorems.{count-fits}
 use Rattle.frames.specs.Limits.{answerRoom}

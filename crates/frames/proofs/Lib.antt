@@ -12,3 +12,4 @@ pub mod OneCall
 pub mod Lines
 pub mod Begun
 pub mod Cuts
+pub mod Unique

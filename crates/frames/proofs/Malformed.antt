@@ -1,10 +1,10 @@
 -- When a line is malformed: a law for each test that the code makes (`too-long`, `odd-digits`, `few-bytes`, `other-character`, `other-kind`,
 -- `wrong-length`), and `well-formed` where none applies. Assumes nothing.
 use mathlib.Core.Path.{_≡_, refl, sym, ap, _∙_}
-use mathlib.Core.Logic.{_≢_, _⊎_, inl, inr}
-use mathlib.Core.Bool.{Bool, true, false, not, _||_, false≢true, or-true}
+use mathlib.Core.Logic.{_≢_}
+use mathlib.Core.Bool.{true, false, not, false≢true}
 use mathlib.Core.List.{List, [], _∷_}
-use Prim.Native.Nat.{ℕ, zero, suc, _+_, _*_, _/_, _%_, _≤_, _<_}
+use Prim.Native.Nat.{ℕ, zero, suc, _/_, _%_, _≤_, _<_}
 use native.Mathlib.Omega.{arith}
 use borrow.Author.Tests.{lt-ltb, le-ltb, eq-eqb, ne-eqb}
 use lib.Dec.{eqb, ltb}
@@ -12,7 +12,7 @@ use lib.ListN.{length}
 use Rattle.field.specs.Refusal.{Test, _⇒_, refusal}
 use Rattle.field.proofs.Refusal.{none-applies}
 use Rattle.frames.specs.Limits.{mostDigits}
-use Rattle.frames.specs.Frame.{kindOf, countOf, anotherCharacter, anotherKind, disagrees, lineTests}
+use Rattle.frames.specs.Frame.{kindOf, anotherCharacter, anotherKind, disagrees, lineTests}
 
 -- the test at place i applies
 abbrev Applies : List Test → ℕ → Type 0

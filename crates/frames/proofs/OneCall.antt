@@ -13,8 +13,8 @@ use Rattle.frames.specs.Limits.{mostDigits, answerRoom}
 use Rattle.frames.specs.Text.{text}
 use Rattle.frames.specs.Answer.{answerBytes, answerText}
 use Rattle.frames.specs.Stream.{lineFeed, answerLine, held, beforeFeed, ends, takenOf, lengthened, lengthAfter, keptAfter, lineAfter, writtenOf, lastWritten}
-use Rattle.frames.proofs.Feeds.{feed-front, feed-within}
 use Rattle.frames.proofs.Fitting.{line-short}
+use Rattle.frames.proofs.Feeds.{feed-front, feed-within}
 use Rattle.frames.proofs.Held.{held-kept}
 
 same-line : (l k : List ℕ) → answerBytes l ≡ answerBytes k → answerLine l ≡ answerLine k

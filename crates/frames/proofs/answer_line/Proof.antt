@@ -2,10 +2,10 @@
 use mathlib.Core.Path.{ap, sym, _∙_}
 use Prim.Native.Nat.{ℕ, _*_}
 use native.Mathlib.Omega.{arith}
+use borrow.Author.Needs.{needs}
 use Rattle.frames.specs.Answer.{answerBytes, answerText}
 use Rattle.frames.proofs.Writing.{text-length, put-text}
 use Rattle.frames.proofs.Fitting.{answer-short}
-use borrow.Author.Needs.{needs}
 use Rattle.frames.proofs.answer_line.Statement.{statement}
 use Rattle.frames.proofs.answer_line.Tie as tie
 

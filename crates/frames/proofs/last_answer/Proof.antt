@@ -1,6 +1,6 @@
 -- `last_answer` meets its contract. Assumes nothing.
-use Rattle.frames.proofs.OneCall.{no-line, input-ends}
 use borrow.Author.Needs.{needs}
+use Rattle.frames.proofs.OneCall.{no-line, input-ends}
 use Rattle.frames.proofs.last_answer.Statement.{statement}
 use Rattle.frames.proofs.last_answer.Tie as tie
 

@@ -1,10 +1,10 @@
 -- `next_answer` meets its contract. Assumes nothing.
 use mathlib.Core.Path.{sym}
 use native.Mathlib.Omega.{arith}
+use borrow.Author.Needs.{needs}
 use lib.Seq.{length-take-le}
 use Rattle.frames.proofs.Feeds.{feed-within}
 use Rattle.frames.proofs.OneCall.{goes-on, line-ends}
-use borrow.Author.Needs.{needs}
 use Rattle.frames.proofs.next_answer.Statement.{statement}
 use Rattle.frames.proofs.next_answer.Tie as tie
 

@@ -1,6 +1,5 @@
 // A line to its answer, by the call that its kind asks for. Each function says how many bytes it has put.
 ghost use mathlib.Core.Path.{_≡_};
-ghost use Prim.Native.Nat.{_≤_};
 ghost use lib.Dec.{eqb};
 ghost use lib.ListN.{length};
 ghost use Rattle.frames.specs.Text.{putBytes};

@@ -3,7 +3,7 @@ ghost use mathlib.Core.Path.{_≡_};
 ghost use Prim.Native.Nat.{_+_, _-_, _≤_, _<_, min};
 ghost use lib.ListN.{length, take};
 ghost use lib.Seq.{sets};
-ghost use Rattle.frames.specs.Limits.{mostDigits, answerRoom};
+ghost use Rattle.frames.specs.Limits.{mostDigits};
 ghost use Rattle.frames.specs.Text.{putBytes};
 ghost use Rattle.frames.specs.Answer.{answerBytes};
 ghost use Rattle.frames.specs.Stream.{beforeFeed, lengthened, keptAfter, held, answerLine};

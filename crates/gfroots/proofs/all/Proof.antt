@@ -2,8 +2,8 @@
 use mathlib.Core.Path.{_≡_, refl, _∙_}
 use Prim.Native.Nat.{_≤_}
 use native.Mathlib.Omega.{arith}
-use lib.ListN.{length}
 use borrow.Author.Needs.{needs}
+use lib.ListN.{length}
 use Rattle.gfroots.proofs.all.Statement.{statement}
 use Rattle.gfroots.proofs.all.Tie as tie
 

@@ -1,9 +1,9 @@
 -- `worked` meets its contract. Assumes nothing.
 use Prim.Native.Nat.{_-_, _≤_}
 use native.Mathlib.Omega.{arith}
+use borrow.Author.Needs.{needs}
 use lib.ListN.{length}
 use Rattle.gfroots.proofs.Rest.{next-within, next-further}
-use borrow.Author.Needs.{needs}
 use Rattle.gfroots.proofs.worked.Statement.{statement}
 use Rattle.gfroots.proofs.worked.Tie as tie
 

@@ -1,7 +1,7 @@
 -- `handed_on` meets its contract. Assumes nothing.
 use mathlib.Core.Path.{sym}
-use lib.Seq.{length-take-le}
 use borrow.Author.Needs.{needs}
+use lib.Seq.{length-take-le}
 use Rattle.gfroots.proofs.output.handed_on.Statement.{statement}
 use Rattle.gfroots.proofs.output.handed_on.Tie as tie
 

@@ -1,6 +1,6 @@
 -- `put_affine_answer` meets its contract. Assumes nothing.
-use Rattle.frames.proofs.Answered.{affine-refused, affine-none, affine-found, affine-few}
 use borrow.Author.Needs.{needs}
+use Rattle.frames.proofs.Answered.{affine-refused, affine-none, affine-found, affine-few}
 use Rattle.frames.proofs.inner.answer.put_affine_answer.Statement.{statement}
 use Rattle.frames.proofs.inner.answer.put_affine_answer.Tie as tie
 

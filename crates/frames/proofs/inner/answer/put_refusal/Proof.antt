@@ -1,8 +1,8 @@
 -- `put_refusal` meets its contract. Assumes nothing.
 use mathlib.Core.Path.{refl}
 use mathlib.Core.List.{[], _∷_}
-use Rattle.frames.proofs.Writing.{put-then}
 use borrow.Author.Needs.{needs}
+use Rattle.frames.proofs.Writing.{put-then}
 use Rattle.frames.proofs.inner.answer.put_refusal.Statement.{statement}
 use Rattle.frames.proofs.inner.answer.put_refusal.Tie as tie
 

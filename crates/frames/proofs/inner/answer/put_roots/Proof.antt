@@ -1,12 +1,11 @@
 -- `put_roots` meets its contract. Assumes nothing.
-use mathlib.Core.Path.{_≡_, refl, sym, ap, _∙_}
-use Prim.Native.Nat.{ℕ, _-_, _≤_}
+use mathlib.Core.Path.{_≡_, refl}
+use Prim.Native.Nat.{_-_, _≤_}
 use native.Mathlib.Omega.{arith}
-use Rattle.roots.specs.Limits.{mostRoots}
+use borrow.Author.Needs.{needs}
 use Rattle.frames.specs.Text.{upTo, putBytes}
 use Rattle.frames.specs.Answer.{rootBytes}
 use Rattle.frames.proofs.Writing.{put-none, put-more, put-all}
-use borrow.Author.Needs.{needs}
 use Rattle.frames.proofs.inner.answer.put_roots.Statement.{statement}
 use Rattle.frames.proofs.inner.answer.put_roots.Tie as tie
 

@@ -1,6 +1,6 @@
 -- `put_roots_answer` meets its contract. Assumes nothing.
-use Rattle.frames.proofs.Answered.{roots-refused, roots-solved, roots-few}
 use borrow.Author.Needs.{needs}
+use Rattle.frames.proofs.Answered.{roots-refused, roots-solved, roots-few}
 use Rattle.frames.proofs.inner.answer.put_roots_answer.Statement.{statement}
 use Rattle.frames.proofs.inner.answer.put_roots_answer.Tie as tie
 

@@ -1,10 +1,10 @@
 -- `put_answer` meets its contract. Assumes nothing.
 use mathlib.Core.Path.{sym, _∙_}
 use native.Mathlib.Omega.{arith}
+use borrow.Author.Needs.{needs}
 use lib.Seq.{length-take-le}
 use Rattle.frames.proofs.Coefficients.{is-well-formed, count-within}
 use Rattle.frames.proofs.Called.{line-refused, line-called}
-use borrow.Author.Needs.{needs}
 use Rattle.frames.proofs.inner.call.put_answer.Statement.{statement}
 use Rattle.frames.proofs.inner.call.put_answer.Tie as tie
 

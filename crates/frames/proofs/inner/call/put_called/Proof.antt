@@ -1,11 +1,11 @@
 -- `put_called` meets its contract. Assumes nothing.
 use mathlib.Core.Path.{sym, subst}
+use borrow.Author.Needs.{needs}
 use Rattle.affine.specs.Calls as affine
 use Rattle.roots.specs.Calls as roots
 use Rattle.frames.specs.Answer.{FewRoots, FewDirections}
 use Rattle.frames.proofs.Fitting.{roots-fit, directions-fit}
 use Rattle.frames.proofs.Called.{called-roots, called-affine}
-use borrow.Author.Needs.{needs}
 use Rattle.frames.proofs.inner.call.put_called.Statement.{statement}
 use Rattle.frames.proofs.inner.call.put_called.Tie as tie
 

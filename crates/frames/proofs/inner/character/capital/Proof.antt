@@ -1,6 +1,6 @@
 -- `capital` meets its contract. Assumes nothing.
-use Rattle.frames.proofs.Characters.{as-decimal, as-letter}
 use borrow.Author.Needs.{needs}
+use Rattle.frames.proofs.Characters.{as-decimal, as-letter}
 use Rattle.frames.proofs.inner.character.capital.Statement.{statement}
 use Rattle.frames.proofs.inner.character.capital.Tie as tie
 

@@ -1,8 +1,8 @@
 -- `digit_value` meets its contract. Assumes nothing.
 use mathlib.Core.Path.{sym, _∙_}
 use native.Mathlib.Omega.{arith}
-use Rattle.frames.proofs.Characters.{decimal, upper, lower, no-digit, between-from, between-to}
 use borrow.Author.Needs.{needs}
+use Rattle.frames.proofs.Characters.{decimal, upper, lower, no-digit, between-from, between-to}
 use Rattle.frames.proofs.inner.character.digit_value.Statement.{statement}
 use Rattle.frames.proofs.inner.character.digit_value.Tie as tie
 

@@ -1,7 +1,7 @@
 -- `byte_at` meets its contract. Assumes nothing.
 use native.Mathlib.Omega.{arith}
-use Rattle.frames.specs.Frame.{byteAt}
 use borrow.Author.Needs.{needs}
+use Rattle.frames.specs.Frame.{byteAt}
 use Rattle.frames.proofs.inner.frame.byte_at.Statement.{statement}
 use Rattle.frames.proofs.inner.frame.byte_at.Tie as tie
 

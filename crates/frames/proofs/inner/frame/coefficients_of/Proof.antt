@@ -2,13 +2,13 @@
 use mathlib.Core.Path.{_∙_}
 use Prim.Native.Nat.{_-_, _≤_}
 use native.Mathlib.Omega.{arith}
+use borrow.Author.Needs.{needs}
 use lib.ListN.{getD, replicate}
 use Rattle.algebra.proofs.Filled.{Filled, filled-none, filled-put}
 use Rattle.algebra.proofs.Places.{filled-padded}
 use Rattle.frames.specs.Limits.{mostCounted}
 use Rattle.frames.specs.Frame.{coefficientsOf}
 use Rattle.frames.proofs.Coefficients.{coefficient-count, coefficient-is}
-use borrow.Author.Needs.{needs}
 use Rattle.frames.proofs.inner.frame.coefficients_of.Statement.{statement}
 use Rattle.frames.proofs.inner.frame.coefficients_of.Tie as tie
 

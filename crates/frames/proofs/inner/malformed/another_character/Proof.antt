@@ -4,12 +4,12 @@ use mathlib.Core.Bool.{false}
 use Prim.Native.Nat.{ℕ, _-_, _<_}
 use native.Mathlib.Omega.{arith}
 use borrow.Author.Count.{below-more}
+use borrow.Author.Needs.{needs}
 use borrow.Author.Tests.{eq-eqb, ne-eqb}
 use lib.Dec.{eqb}
 use lib.ListN.{getD}
 use Rattle.algebra.proofs.Search.{some-one, some-none}
 use Rattle.frames.specs.Frame.{digitValue, anotherCharacter}
-use borrow.Author.Needs.{needs}
 use Rattle.frames.proofs.inner.malformed.another_character.Statement.{statement}
 use Rattle.frames.proofs.inner.malformed.another_character.Tie as tie
 

@@ -1,6 +1,6 @@
 -- `another_kind` meets its contract. Assumes nothing.
-use Rattle.frames.proofs.Malformed.{first-kind, second-kind}
 use borrow.Author.Needs.{needs}
+use Rattle.frames.proofs.Malformed.{first-kind, second-kind}
 use Rattle.frames.proofs.inner.malformed.another_kind.Statement.{statement}
 use Rattle.frames.proofs.inner.malformed.another_kind.Tie as tie
 

@@ -1,11 +1,11 @@
 -- `disagrees` meets its contract. Assumes nothing.
 use mathlib.Core.Path.{ap}
-use Prim.Native.Nat.{ℕ, _+_, _*_, _/_}
 use mathlib.Core.Bool.{not}
+use Prim.Native.Nat.{ℕ, _+_, _*_, _/_}
+use borrow.Author.Needs.{needs}
 use lib.Dec.{eqb}
 use lib.ListN.{length}
 use Rattle.frames.specs.Frame.{disagrees}
-use borrow.Author.Needs.{needs}
 use Rattle.frames.proofs.inner.malformed.disagrees.Statement.{statement}
 use Rattle.frames.proofs.inner.malformed.disagrees.Tie as tie
 

@@ -1,7 +1,7 @@
 -- `refusal` meets its contract. Assumes nothing.
 use mathlib.Core.Path.{sym, _∙_}
-use Rattle.frames.proofs.Malformed.{too-long, odd-digits, few-bytes, other-character, other-kind, wrong-length, well-formed}
 use borrow.Author.Needs.{needs}
+use Rattle.frames.proofs.Malformed.{too-long, odd-digits, few-bytes, other-character, other-kind, wrong-length, well-formed}
 use Rattle.frames.proofs.inner.malformed.refusal.Statement.{statement}
 use Rattle.frames.proofs.inner.malformed.refusal.Tie as tie
 

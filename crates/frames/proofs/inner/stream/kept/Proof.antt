@@ -1,11 +1,11 @@
 -- `kept` meets its contract: each turn stores the next byte. Assumes nothing.
-use mathlib.Core.Path.{_≡_, refl, ap, sym, _∙_}
+use mathlib.Core.Path.{_≡_, refl, ap, _∙_}
 use Prim.Native.Nat.{_-_, _≤_}
 use native.Mathlib.Omega.{arith}
+use borrow.Author.Needs.{needs}
 use lib.ListN.{length, take}
 use lib.Seq.{sets, length-sets}
 use Rattle.frames.proofs.Keeping.{kept-turn, kept-all}
-use borrow.Author.Needs.{needs}
 use Rattle.frames.proofs.inner.stream.kept.Statement.{statement}
 use Rattle.frames.proofs.inner.stream.kept.Tie as tie
 

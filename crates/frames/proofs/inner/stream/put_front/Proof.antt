@@ -1,7 +1,7 @@
 -- `put_front` meets its contract. Assumes nothing.
 use mathlib.Core.Path.{sym}
-use lib.Seq.{length-take-le}
 use borrow.Author.Needs.{needs}
+use lib.Seq.{length-take-le}
 use Rattle.frames.proofs.inner.stream.put_front.Statement.{statement}
 use Rattle.frames.proofs.inner.stream.put_front.Tie as tie
 

@@ -1,10 +1,10 @@
 -- `put_held` meets its contract. Assumes nothing.
-use mathlib.Core.Path.{sym, ap, _∙_}
+use mathlib.Core.Path.{sym, ap}
 use native.Mathlib.Omega.{arith}
+use borrow.Author.Needs.{needs}
 use Rattle.frames.specs.Answer.{answerBytes}
 use Rattle.frames.proofs.Answered.{same-bytes}
 use Rattle.frames.proofs.Held.{held-front, held-length, long-answer}
-use borrow.Author.Needs.{needs}
 use Rattle.frames.proofs.inner.stream.put_held.Statement.{statement}
 use Rattle.frames.proofs.inner.stream.put_held.Tie as tie
 

@@ -2,11 +2,11 @@
 use mathlib.Core.Path.{ap}
 use Prim.Native.Nat.{ℕ, _*_}
 use native.Mathlib.Omega.{arith}
+use borrow.Author.Needs.{needs}
 use Rattle.frames.specs.Answer.{answerBytes, answerText}
 use Rattle.frames.specs.Stream.{lineFeed, held, answerLine}
 use Rattle.frames.proofs.Writing.{put-after}
 use Rattle.frames.proofs.Fitting.{answer-short, line-length}
-use borrow.Author.Needs.{needs}
 use Rattle.frames.proofs.inner.stream.put_line.Statement.{statement}
 use Rattle.frames.proofs.inner.stream.put_line.Tie as tie
 

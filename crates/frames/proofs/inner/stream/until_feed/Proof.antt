@@ -1,10 +1,9 @@
 -- `until_feed` meets its contract. Assumes nothing.
-use mathlib.Core.Path.{sym, _∙_}
 use Prim.Native.Nat.{_-_, _≤_}
 use native.Mathlib.Omega.{arith}
+use borrow.Author.Needs.{needs}
 use lib.ListN.{length}
 use Rattle.frames.proofs.Feeds.{FeedFrom, feed-turn, feed-found, feed-end}
-use borrow.Author.Needs.{needs}
 use Rattle.frames.proofs.inner.stream.until_feed.Statement.{statement}
 use Rattle.frames.proofs.inner.stream.until_feed.Tie as tie
 

@@ -1,6 +1,6 @@
 -- `put_byte` meets its contract. Assumes nothing.
-use Rattle.frames.proofs.Writing.{put-digits}
 use borrow.Author.Needs.{needs}
+use Rattle.frames.proofs.Writing.{put-digits}
 use Rattle.frames.proofs.inner.text.put_byte.Statement.{statement}
 use Rattle.frames.proofs.inner.text.put_byte.Tie as tie
 

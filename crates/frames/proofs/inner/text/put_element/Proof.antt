@@ -2,8 +2,8 @@
 use mathlib.Core.Path.{refl}
 use mathlib.Core.List.{[], _∷_}
 use Prim.Native.Nat.{_/_, _%_}
-use Rattle.frames.proofs.Writing.{put-then}
 use borrow.Author.Needs.{needs}
+use Rattle.frames.proofs.Writing.{put-then}
 use Rattle.frames.proofs.inner.text.put_element.Statement.{statement}
 use Rattle.frames.proofs.inner.text.put_element.Tie as tie
 
