@@ -1,5 +1,5 @@
 -- What the calls' definitions mean, for every accepted field polynomial p, its degree m a parameter, and every list of coefficients: the
--- roots, base and directions (`answer-canonical`, `answer-only`), how many (`root-count`), the places (`places-in-order`), equations that
+-- roots, base and directions (`answer-canonical`, `answer-only`, `base-element`, `direction-element`), how many (`root-count`), the places (`places-in-order`), equations that
 -- are all zero (`all-zero-roots`). Assumes nothing.
 use mathlib.Core.Path.{_≡_, sym, ap, ap₂, _∙_, subst}
 use mathlib.Core.Logic.{_↔_}
@@ -7,10 +7,11 @@ use mathlib.Core.Bool.{true, false}
 use mathlib.Core.List.{List, [], _∷_, map}
 use Prim.Native.Nat.{ℕ, zero, _^_, _<_}
 use native.Mathlib.Omega.{arith}
+use borrow.Author.Tests.{ltb-true}
 use lib.Dec.{T}
 use lib.ListN.{length, getD, drop}
 use Rattle.algebra.specs.Lists.{Member, Ascending, countUp, keep}
-use Rattle.algebra.specs.Search.{someBelow}
+use Rattle.algebra.specs.Search.{first, someBelow}
 use Rattle.algebra.proofs.Search.{is-true}
 use Rattle.algebra.proofs.CountUp.{kept-iff, kept-ascending, keep-all, map-countUp}
 use Rattle.binary.specs.Xor.{_⊕_}
@@ -21,6 +22,7 @@ use Rattle.galois.specs.Polynomial.{AllZero}
 use Rattle.galois.specs.Affine.{affineAt}
 use Rattle.galois.proofs.Affine.{linearAt-zero}
 use Rattle.linear.proofs.Canonical.{Canonical, is-canonical, canonical-only}
+use Rattle.linear.proofs.Listed.{listed-place, listed-search, degree-lt}
 use Rattle.linear.proofs.Places as places
 use Rattle.field.specs.Accepted.{Accepted}
 use Rattle.affine.specs.Equation.{isRoot, isDirection, allRoots, baseOf, directionsOf, rootAt}
@@ -64,6 +66,15 @@ module _ (p : ℕ) (A : Accepted p) (cs : List ℕ) where
   pub answer-only : (b : ℕ) (ds : List ℕ) → Canonical m (isRoot p cs) b ds → (b ≡ baseOf m p cs) × (ds ≡ directionsOf m p cs)
   unfolding baseOf directionsOf
   answer-only b ds C = canonical-only m (isRoot p cs) (isDirection p cs) (coset m p F cs) C
+
+  -- they are elements
+  pub base-element : HasRoot → baseOf m p cs < 2 ^ m
+  unfolding baseOf someBelow
+  base-element h = ltb-true (first (isRoot p cs) (2 ^ m)) (2 ^ m) h
+
+  pub direction-element : (i : ℕ) → i < length (directionsOf m p cs) → getD (directionsOf m p cs) i 0 < 2 ^ m
+  unfolding directionsOf
+  direction-element i l = let u = listed-place (listed-search (isDirection p cs) m) i l in degree-lt (u .2) (u .3 .degree)
 
   -- "2^k in all", and none where none is found
   pub root-count : HasRoot → length (allRoots m p cs) ≡ 2 ^ length (directionsOf m p cs)

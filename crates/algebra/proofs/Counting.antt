@@ -1,9 +1,12 @@
--- B4, `fibres-sum`: how often f takes each value below k, added up over the values, is how many arguments there are. Assumes nothing.
+-- B4, `fibres-sum`: how often f takes each value below k, added up over the values, is how many arguments there are. And no entry
+-- of a list is above their sum (`entry-sum`). Assumes nothing.
 use mathlib.Core.Path.{_≡_, refl, sym, ap, ap₂, _∙_}
+use mathlib.Core.List.{List, [], _∷_}
 use Prim.Native.Nat.{ℕ, zero, suc, _+_, _≤_, _<_}
 use native.Mathlib.Decide.{ℕ-discrete}
 use native.Mathlib.Omega.{arith}
-use Rattle.algebra.specs.Counts.{same, sumBelow, fibre}
+use lib.ListN.{getD}
+use Rattle.algebra.specs.Counts.{same, sumBelow, fibre, sumOf}
 use Rattle.algebra.proofs.Members.{same-refl, same-apart}
 
 none-same : (v k : ℕ) → k ≤ v → sumBelow (λ y. same v y) k ≡ 0
@@ -41,3 +44,9 @@ fibres-sum f (suc n) k h =
     let b = fibres-sum f n k (λ i l. h i (omega arith)) in
     let c = one-same (f n) k (h n (omega arith)) in
     a ∙ ap₂ _+_ b c ∙ omega arith
+
+pub entry-sum : (xs : List ℕ) (i : ℕ) → getD xs i 0 ≤ sumOf xs
+unfolding sumOf
+entry-sum [] i = omega arith
+entry-sum (x ∷ xs) zero = omega arith
+entry-sum (x ∷ xs) (suc i) = omega (arith, entry-sum xs i)

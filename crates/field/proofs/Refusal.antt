@@ -1,13 +1,13 @@
 -- The tests of a call: `then-kept`, `then-applies`, `then-passes` and `then-say` for tests after others, `down` and `given` for what a call
--- then says, `passes` for tests that turn nothing down, `accepted` and `element-passed` for what has passed. Assumes nothing.
+-- then says, `passes` for tests that turn nothing down, `refusal-below` for the numbers, `accepted` and `element-passed` for what has passed. Assumes nothing.
 use mathlib.Core.Path.{_≡_, refl, sym, ap, _∙_}
 use mathlib.Core.Logic.{_≢_}
-use mathlib.Core.Bool.{Bool, true, false, not, false≢true, or-true}
+use mathlib.Core.Bool.{Bool, true, false, not, _&&_, false≢true, or-true}
 use mathlib.Core.List.{List, [], _∷_, _++_}
 use Prim.Native.Nat.{ℕ, zero, suc, _^_, _≤_, _<_}
 use native.Mathlib.Decide.{decLt, decLe}
 use native.Mathlib.Omega.{arith}
-use lib.Dec.{T, ltb}
+use lib.Dec.{T, ltb, ltb→lt}
 use borrow.Author.Needs.{needs}
 use borrow.Author.Tests.{lt-ltb, le-ltb, le-leb, lt-leb}
 use Rattle.binary.specs.Xor.{Degree}
@@ -208,3 +208,17 @@ elements-passed p a b e =
     let first = t .0 in
     let second = t .1 .0 in
     (passed p (search needs) (search needs), element-small p a (t .1 .1 .0), element-small p b (t .1 .1 .1 .0))
+
+-- every number is below n
+abbrev pub numbersBelow : ℕ → List Test → Bool
+numbersBelow n [] = ltb 0 n
+numbersBelow n ((b ⇒ k) ∷ ts) = ltb k n && numbersBelow n ts
+
+both : (a b : Bool) → T (a && b) → T a × T b
+both true b h = (tt, h)
+both false b h = absurd h
+
+pub refusal-below : (n : ℕ) (ts : List Test) → T (numbersBelow n ts) → refusal ts < n
+refusal-below n [] h = ltb→lt 0 n h
+refusal-below n ((true ⇒ k) ∷ ts) h = ltb→lt k n (both (ltb k n) (numbersBelow n ts) h .0)
+refusal-below n ((false ⇒ k) ∷ ts) h = refusal-below n ts (both (ltb k n) (numbersBelow n ts) h .1)

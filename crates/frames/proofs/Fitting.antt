@@ -35,7 +35,7 @@ roots-fit p cs = go (refusal (roots.equationTests p cs)) refl
     go zero e = count-fits p cs e
     go (suc n) e = tt
 
-directions-few : (p : ℕ) (cs : List ℕ) → refusal (affine.equationTests p cs) ≡ 0 → length (directionsOf (degreeOf p) p cs) ≤ places
+pub directions-few : (p : ℕ) (cs : List ℕ) → refusal (affine.equationTests p cs) ≡ 0 → length (directionsOf (degreeOf p) p cs) ≤ places
 unfolding directionsOf
 directions-few p cs e = omega (arith, directions-length (isDirection p cs) (degreeOf p), equation-ready p cs e .largest)
 

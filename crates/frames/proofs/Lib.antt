@@ -13,3 +13,6 @@ pub mod Lines
 pub mod Begun
 pub mod Cuts
 pub mod Unique
+pub mod Bytes
+pub mod ByteValues
+pub mod ReadBack

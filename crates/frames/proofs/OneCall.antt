@@ -10,7 +10,7 @@ use borrow.Author.Tests.{ltb-true, lt-ltb, le-ltb}
 use lib.ListN.{length, take}
 use lib.Seq.{sets}
 use Rattle.frames.specs.Limits.{mostDigits, answerRoom}
-use Rattle.frames.specs.Text.{text}
+use Rattle.frames.specs.Text.{text, Counts}
 use Rattle.frames.specs.Answer.{answerBytes, answerText}
 use Rattle.frames.specs.Stream.{lineFeed, answerLine, held, beforeFeed, ends, takenOf, lengthened, lengthAfter, keptAfter, lineAfter, writtenOf, lastWritten}
 use Rattle.frames.proofs.Fitting.{line-short}
@@ -59,6 +59,10 @@ taken-within chunk = taken-bounds chunk .0
 pub taken-some : (chunk : List ℕ) → 0 < length chunk → 0 < takenOf chunk
 taken-some chunk = taken-bounds chunk .1
 
+last-some : (n : ℕ) (line : List ℕ) → n ≢ 0 → answerLine (held n line) ≡ lastWritten n line
+last-some zero line h = absurd (h refl)
+last-some (suc n) line h = refl
+
 -- ---- what the code does in each
 
 module _ (n : ℕ) (line chunk out : List ℕ) (end length-now : ℕ) {line-now : List ℕ} (e : end ≡ length (beforeFeed chunk))
@@ -78,7 +82,8 @@ module _ (n : ℕ) (line chunk out : List ℕ) (end length-now : ℕ) {line-now 
         (taken ≡ takenOf chunk)
         × ((longer ≡ lengthAfter n chunk)
         × ((r ≡ length (writtenOf n line chunk))
-        × ((line-now ≡ lineAfter n line chunk) × ((now ≡ sets out 0 (writtenOf n line chunk)) × ((taken ≤ length chunk) × (r ≤ answerRoom))))))
+        × ((line-now ≡ lineAfter n line chunk)
+        × ((now ≡ sets out 0 (writtenOf n line chunk)) × (((taken ≤ length chunk) × (r ≤ answerRoom)) × Counts r now)))))
 
     pub goes-on : end ≡ length chunk → Done end length-now 0 out
     goes-on h =
@@ -86,7 +91,7 @@ module _ (n : ℕ) (line chunk out : List ℕ) (end length-now : ℕ) {line-now 
         let w = written-none n line chunk none in
         let taken = h ∙ sym (taken-all n line chunk none) in
         let longer = length-is ∙ ap (λ (d : ℕ). lengthened n d) (sym e ∙ h) ∙ sym (length-on n line chunk none) in
-        (taken, (longer, (ap length (sym w), (kept-is, (ap (sets out 0) (sym w), (omega (arith, h), omega arith))))))
+        (taken, (longer, (ap length (sym w), (kept-is, (ap (sets out 0) (sym w), ((omega (arith, h), omega arith), (omega arith, refl)))))))
 
     module _ (long : length line ≡ mostDigits) where
       answer : answerLine (held length-now line-now) ≡ answerLine (held n line ++ beforeFeed chunk)
@@ -95,20 +100,25 @@ module _ (n : ℕ) (line chunk out : List ℕ) (end length-now : ℕ) {line-now 
           ∙ same-line (held (lengthened n (length (beforeFeed chunk))) (lineAfter n line chunk)) (held n line ++ beforeFeed chunk) (held-kept n line (beforeFeed chunk) long)
 
       pub line-ends : (r : ℕ) {now : List ℕ} → end ≢ length chunk → r ≡ length (answerLine (held length-now line-now))
-          → now ≡ sets out 0 (answerLine (held length-now line-now)) → Done (end + 1) 0 r now
-      line-ends r h f g =
+          → now ≡ sets out 0 (answerLine (held length-now line-now)) → Counts r now → Done (end + 1) 0 r now
+      line-ends r h f g c =
           let within = feed-within chunk in
           let one : ends chunk ≡ true = lt-ltb (length (beforeFeed chunk)) (length chunk) (omega (arith, within, e, h)) in
           let w = answer ∙ sym (written-line n line chunk one) in
           let taken = ap (λ (d : ℕ). d + 1) e ∙ sym (taken-line n line chunk one) in
           let short = line-short (held length-now line-now) in
-          (taken, (sym (length-new n line chunk one), (f ∙ ap length w, (kept-is, (g ∙ ap (sets out 0) w, (omega (arith, within, e, h), omega (arith, f, short)))))))
+          (taken, (sym (length-new n line chunk one), (f ∙ ap length w, (kept-is, (g ∙ ap (sets out 0) w, ((omega (arith, within, e, h), omega (arith, f, short)), c))))))
 
-pub no-line : (n : ℕ) (line out : List ℕ) → n ≡ 0 → (0 ≡ length (lastWritten n line)) × ((out ≡ sets out 0 (lastWritten n line)) × (0 ≤ answerRoom))
-no-line zero line out e = (refl, (refl, omega arith))
-no-line (suc n) line out e = absurd (omega arith)
+module _ (n : ℕ) (line out : List ℕ) where
+  abbrev Last : ℕ → List ℕ → Type 0
+  Last r now = (r ≡ length (lastWritten n line)) × ((now ≡ sets out 0 (lastWritten n line)) × ((r ≤ answerRoom) × Counts r now))
 
-pub input-ends : (n : ℕ) (line out : List ℕ) (r : ℕ) {now : List ℕ} → n ≢ 0 → r ≡ length (answerLine (held n line)) → now ≡ sets out 0 (answerLine (held n line))
-    → (r ≡ length (lastWritten n line)) × ((now ≡ sets out 0 (lastWritten n line)) × (r ≤ answerRoom))
-input-ends zero line out r h e f = absurd (h refl)
-input-ends (suc n) line out r h e f = (e, (f, omega (arith, e, line-short (held (suc n) line))))
+  pub no-line : n ≡ 0 → Last 0 out
+  no-line e =
+      let none : lastWritten n line ≡ [] = ap (λ (k : ℕ). lastWritten k line) e in
+      (ap length (sym none), (ap (sets out 0) (sym none), (omega arith, (omega arith, refl))))
+
+  pub input-ends : (r : ℕ) {now : List ℕ} → n ≢ 0 → r ≡ length (answerLine (held n line)) → now ≡ sets out 0 (answerLine (held n line)) → Counts r now → Last r now
+  input-ends r h e f c =
+      let some = last-some n line h in
+      (e ∙ ap length some, (f ∙ ap (sets out 0) some, (omega (arith, e, line-short (held n line)), c)))

@@ -5,6 +5,7 @@ ghost use Prim.Native.Nat.{_≤_};
 ghost use lib.ListN.{length};
 ghost use lib.Seq.{sets};
 ghost use Rattle.frames.specs.Limits.{answerRoom};
+ghost use Rattle.frames.specs.Text.{Counts};
 ghost use Rattle.frames.specs.Answer.{answerText};
 ghost use Rattle.frames.specs.Stream.{takenOf, lengthAfter, lineAfter, writtenOf, lastWritten};
 
@@ -16,6 +17,7 @@ use crate::inner::call::put_answer;
 use crate::inner::stream::kept;
 use crate::inner::stream::put_line;
 use crate::inner::stream::until_feed;
+use crate::inner::text::counted;
 use crate::limits::ANSWER_ROOM;
 use crate::limits::MOST_DIGITS;
 
@@ -37,8 +39,10 @@ pub fn answer_line(line: &[u8], out: &mut [u8; ANSWER_ROOM]) -> usize
     ensures { λ r. ⌜ r ≡ length (answerText (now (line .entry))) ⌝ }
     ensures { λ _. ⌜ now (out .exit) ≡ sets (now (out .entry)) 0 (answerText (now (line .entry))) ⌝ }
     ensures { λ r. ⌜ r ≤ answerRoom ⌝ }
+    ensures { λ r. ⌜ Counts r (now (out .exit)) ⌝ }
 {
-    2 * put_answer(out, line)
+    let n = 2 * put_answer(out, line);
+    counted(out, n)
 }
 
 // Takes the chunk's bytes up to its first line feed, and writes the answer to the line that ends there, with a line feed; or takes all of
@@ -55,6 +59,7 @@ pub fn next_answer(
     ensures { λ _. ⌜ now (line .exit) ≡ lineAfter (begun .length) (now (line .entry)) (now (chunk .entry)) ⌝ }
     ensures { λ _. ⌜ now (out .exit) ≡ sets (now (out .entry)) 0 (writtenOf (begun .length) (now (line .entry)) (now (chunk .entry))) ⌝ }
     ensures { λ r. ⌜ (r .taken ≤ length (now (chunk .entry))) × (r .written ≤ answerRoom) ⌝ }
+    ensures { λ r. ⌜ Counts (r .written) (now (out .exit)) ⌝ }
 {
     let end = until_feed(chunk);
     let length = kept(line, begun.length, &chunk[..end]);
@@ -65,7 +70,8 @@ pub fn next_answer(
             written: 0,
         };
     }
-    let written = put_line(out, line, length);
+    let n = put_line(out, line, length);
+    let written = counted(out, n);
     Progress {
         line: OpenLine { length: 0 },
         taken: end + 1,
@@ -78,9 +84,11 @@ pub fn last_answer(begun: OpenLine, line: &[u8; MOST_DIGITS], out: &mut [u8; ANS
     ensures { λ r. ⌜ r ≡ length (lastWritten (begun .length) (now (line .entry))) ⌝ }
     ensures { λ _. ⌜ now (out .exit) ≡ sets (now (out .entry)) 0 (lastWritten (begun .length) (now (line .entry))) ⌝ }
     ensures { λ r. ⌜ r ≤ answerRoom ⌝ }
+    ensures { λ r. ⌜ Counts r (now (out .exit)) ⌝ }
 {
     if begun.length == 0 {
         return 0;
     }
-    put_line(out, line, begun.length)
+    let n = put_line(out, line, begun.length);
+    counted(out, n)
 }

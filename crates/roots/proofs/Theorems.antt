@@ -1,16 +1,18 @@
 -- What the answer to an equation means, for every accepted field polynomial p, its degree m a parameter: zeros above change nothing
 -- (`zeros-above`); the roots (`holds-the-roots`, `in-order`, `each-once`), their multiplicities (`largest-multiplicity`), and how many there
--- are (`at-most-the-degree`, `count-at-most`, `count-fits`). Assumes nothing.
+-- are (`at-most-the-degree`, `count-at-most`, `count-fits`), and how large (`root-element`, `multiplicity-fits`). Assumes nothing.
 use mathlib.Core.Path.{_≡_, sym, ap, _∙_}
 use mathlib.Core.Logic.{_↔_}
 use mathlib.Core.Bool.{Bool}
 use mathlib.Core.List.{List, [], _∷_, _++_, map}
-use Prim.Native.Nat.{ℕ, zero, _≤_, _<_}
+use Prim.Native.Nat.{ℕ, zero, _^_, _≤_, _<_}
 use native.Mathlib.Omega.{arith}
-use lib.ListN.{length, replicate, length-append}
+use lib.ListN.{length, getD, replicate, length-append}
 use Rattle.algebra.specs.Lists.{Member, Nodup, Ascending}
 use Rattle.algebra.specs.Counts.{sumOf}
 use Rattle.algebra.proofs.Ascending.{ascending-nodup}
+use Rattle.algebra.proofs.Counting.{entry-sum}
+use Rattle.algebra.proofs.Front.{entry-member}
 use Rattle.binary.specs.Factor.{degreeOf}
 use Rattle.galois.specs.Field.{Field}
 use Rattle.galois.specs.Polynomial.{Root, IsDegree}
@@ -92,3 +94,12 @@ module _ (p : ℕ) (cs : List ℕ) (z : refusal (equationTests p cs) ≡ 0) wher
       let l = roots-few m p F cs (P .small) (P .nonzero) in
       let f = P .few in
       omega arith
+
+  -- each root is an element, and its multiplicity at most 4
+  pub root-element : (i : ℕ) → i < length rs → getD rs i 0 < 2 ^ m
+  root-element i l = holds-the-roots (getD rs i 0) .0 (entry-member rs i l) .0
+
+  pub multiplicity-fits : (i : ℕ) → getD (map (λ r. multiplicity p r cs) rs) i 0 ≤ mostRoots
+  multiplicity-fits i =
+      let d = its-degree in
+      omega (arith, entry-sum (map (λ r. multiplicity p r cs) rs) i, at-most-the-degree (d .0) (d .1), d .1 .within, P .few)
