@@ -1,5 +1,6 @@
 // Frame lines: one line to its answer, and a stream of chunks to the answers of its lines. No call asks anything of its caller, and each
-// does what its definitions in specs/ say, for every input.
+// does what its definitions in specs/ say, for every input. The last two lines of each promise follow from the others; they are there so
+// that a caller who goes on in a chunk, or lends `&out[..n]`, has nothing to prove.
 ghost use mathlib.Core.Path.{_≡_};
 ghost use Prim.Native.Nat.{_≤_};
 ghost use lib.ListN.{length};

@@ -3,6 +3,7 @@
 ghost use mathlib.Core.Path.{_≡_};
 ghost use Prim.Native.Nat.{_≤_};
 ghost use Rattle.frames.specs.Stream.{takenOf};
+ghost use Rattle.gfroots.specs.Limits.{outputRoom};
 
 mod output;
 
@@ -40,8 +41,8 @@ fn call(
     chunk: &[u8],
     buffer: &mut [u8; OUTPUT_ROOM],
 ) -> Called
-    requires { ⌜ s .output .waiting ≤ 65536 ⌝ }
-    ensures { λ r. ⌜ r .state .output .waiting ≤ 65536 ⌝ }
+    requires { ⌜ s .output .waiting ≤ outputRoom ⌝ }
+    ensures { λ r. ⌜ r .state .output .waiting ≤ outputRoom ⌝ }
     ensures { λ r. ⌜ r .taken ≡ takenOf (now (chunk .entry)) ⌝ }
 {
     let mut answer: [u8; ANSWER_ROOM] = [0; ANSWER_ROOM];
@@ -61,8 +62,8 @@ fn worked(
     chunk: &[u8],
     buffer: &mut [u8; OUTPUT_ROOM],
 ) -> State
-    requires { ⌜ s .output .waiting ≤ 65536 ⌝ }
-    ensures { λ r. ⌜ r .output .waiting ≤ 65536 ⌝ }
+    requires { ⌜ s .output .waiting ≤ outputRoom ⌝ }
+    ensures { λ r. ⌜ r .output .waiting ≤ outputRoom ⌝ }
 {
     let mut state = s;
     let mut at = 0;
@@ -84,8 +85,8 @@ fn turn(
     chunk: &mut [u8],
     buffer: &mut [u8; OUTPUT_ROOM],
 ) -> After
-    requires { ⌜ s .output .waiting ≤ 65536 ⌝ }
-    ensures { λ r. ⌜ r .state .output .waiting ≤ 65536 ⌝ }
+    requires { ⌜ s .output .waiting ≤ outputRoom ⌝ }
+    ensures { λ r. ⌜ r .state .output .waiting ≤ outputRoom ⌝ }
 {
     let got = libc::read(STDIN_FILENO, chunk);
     if got <= 0 {
@@ -106,7 +107,7 @@ fn turn(
 
 // Reads to the end of the input.
 fn all(line: &mut [u8; MOST_DIGITS], chunk: &mut [u8], buffer: &mut [u8; OUTPUT_ROOM]) -> State
-    ensures { λ r. ⌜ r .output .waiting ≤ 65536 ⌝ }
+    ensures { λ r. ⌜ r .output .waiting ≤ outputRoom ⌝ }
 {
     let mut state = State {
         begun: OpenLine { length: 0 },
@@ -129,7 +130,7 @@ fn all(line: &mut [u8; MOST_DIGITS], chunk: &mut [u8], buffer: &mut [u8; OUTPUT_
 
 // A last line without line feed counts.
 fn last(s: State, line: &[u8; MOST_DIGITS], buffer: &mut [u8; OUTPUT_ROOM])
-    requires { ⌜ s .output .waiting ≤ 65536 ⌝ }
+    requires { ⌜ s .output .waiting ≤ outputRoom ⌝ }
 {
     let mut answer: [u8; ANSWER_ROOM] = [0; ANSWER_ROOM];
     let written = frames::last_answer(s.begun, line, &mut answer);

@@ -2,6 +2,8 @@
 ghost use mathlib.Core.Path.{_≡_};
 ghost use Prim.Native.Nat.{_+_, _≤_};
 ghost use lib.ListN.{length};
+ghost use Rattle.frames.specs.Limits.{answerRoom};
+ghost use Rattle.gfroots.specs.Limits.{outputRoom};
 use frames::limits::ANSWER_ROOM;
 use libc::STDOUT_FILENO;
 
@@ -33,8 +35,8 @@ pub fn handed_on(o: Output, buffer: &[u8]) -> Output
 
 // Room for one answer more.
 fn with_room(o: Output, buffer: &mut [u8; OUTPUT_ROOM]) -> Output
-    requires { ⌜ o .waiting ≤ 65536 ⌝ }
-    ensures { λ r. ⌜ r .waiting + 77 ≤ 65536 ⌝ }
+    requires { ⌜ o .waiting ≤ outputRoom ⌝ }
+    ensures { λ r. ⌜ r .waiting + answerRoom ≤ outputRoom ⌝ }
 {
     if o.waiting + ANSWER_ROOM <= OUTPUT_ROOM {
         return o;
@@ -43,7 +45,7 @@ fn with_room(o: Output, buffer: &mut [u8; OUTPUT_ROOM]) -> Output
 }
 
 fn copy(buffer: &mut [u8; OUTPUT_ROOM], at: usize, answer: &[u8; ANSWER_ROOM], n: usize)
-    requires { ⌜ (at + 77 ≤ 65536) × (n ≤ 77) ⌝ }
+    requires { ⌜ (at + answerRoom ≤ outputRoom) × (n ≤ answerRoom) ⌝ }
 {
     for i in 0..n {
         buffer[at + i] = answer[i];
@@ -57,8 +59,8 @@ pub fn with_answer(
     answer: &[u8; ANSWER_ROOM],
     n: usize,
 ) -> Output
-    requires { ⌜ (o .waiting ≤ 65536) × (n ≤ 77) ⌝ }
-    ensures { λ r. ⌜ r .waiting ≤ 65536 ⌝ }
+    requires { ⌜ (o .waiting ≤ outputRoom) × (n ≤ answerRoom) ⌝ }
+    ensures { λ r. ⌜ r .waiting ≤ outputRoom ⌝ }
 {
     let p = with_room(o, buffer);
     copy(buffer, p.waiting, answer, n);

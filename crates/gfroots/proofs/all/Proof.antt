@@ -4,11 +4,12 @@ use Prim.Native.Nat.{_≤_}
 use native.Mathlib.Omega.{arith}
 use borrow.Author.Needs.{needs}
 use lib.ListN.{length}
+use Rattle.gfroots.specs.Limits.{outputRoom}
 use Rattle.gfroots.proofs.all.Statement.{statement}
 use Rattle.gfroots.proofs.all.Tie as tie
 
 abbrev Inv-loop : tie.InvT-loop
-Inv-loop line₀ chunk₀ buffer₀ state₀ turns₀ line chunk buffer state turns = (state .output .waiting ≤ 65536) × (length chunk ≡ length chunk₀)
+Inv-loop line₀ chunk₀ buffer₀ state₀ turns₀ line chunk buffer state turns = (state .output .waiting ≤ outputRoom) × (length chunk ≡ length chunk₀)
 
 abbrev μ-loop : tie.MeasureT-loop
 μ-loop line₀ chunk₀ buffer₀ state₀ turns₀ line chunk buffer state turns = turns

@@ -3,12 +3,13 @@ use Prim.Native.Nat.{_-_, _≤_}
 use native.Mathlib.Omega.{arith}
 use borrow.Author.Needs.{needs}
 use lib.ListN.{length}
+use Rattle.gfroots.specs.Limits.{outputRoom}
 use Rattle.gfroots.proofs.Rest.{next-within, next-further}
 use Rattle.gfroots.proofs.worked.Statement.{statement}
 use Rattle.gfroots.proofs.worked.Tie as tie
 
 abbrev Inv-loop : tie.InvT-loop
-Inv-loop line₀ chunk buffer₀ state₀ at₀ line buffer state at = (at ≤ length chunk) × (state .output .waiting ≤ 65536)
+Inv-loop line₀ chunk buffer₀ state₀ at₀ line buffer state at = (at ≤ length chunk) × (state .output .waiting ≤ outputRoom)
 
 abbrev μ-loop : tie.MeasureT-loop
 μ-loop line₀ chunk buffer₀ state₀ at₀ line buffer state at = length chunk - at
