@@ -16,6 +16,7 @@ use crate::frame::LONGEST;
 use crate::output::Output;
 use crate::output::ROOM;
 use crate::stream::State;
+use libc::STDERR_FILENO;
 use libc::STDIN_FILENO;
 
 // What a read left, and whether there is another.
@@ -24,11 +25,27 @@ struct After {
     state: State,
 }
 
+// A read has failed, and the line that had begun is not whole: it is forgotten, so that no part of a line is answered as if it were one.
+fn cut_off(s: State) -> After {
+    io::write_all(
+        STDERR_FILENO,
+        b"everyroot: a read failed; only the lines before it are answered\n",
+    );
+    let output = s.output;
+    After {
+        more: false,
+        state: State { length: 0, output },
+    }
+}
+
 // One read, and all its lines: the answers are handed on before the next read. A failed write ends the run.
 fn turn(s: State, line: &mut [u8; LONGEST], buffer: &mut [u8; ROOM]) -> After {
     let mut bytes = io::large_buffer();
     let got = libc::read(STDIN_FILENO, &mut bytes);
-    if got <= 0 {
+    if got < 0 {
+        return cut_off(s);
+    }
+    if got == 0 {
         return After {
             more: false,
             state: s,

@@ -1,6 +1,7 @@
 // The output: bytes as two capital digits each, collected in a lent buffer, which is handed on when it is full and after each read.
 ghost use Prim.Native.Nat.{_≤_, _<_};
 ghost use lib.ListN.{length};
+use libc::STDERR_FILENO;
 use libc::STDOUT_FILENO;
 
 // The length of the buffer: every u16 is a place in it.
@@ -12,6 +13,18 @@ const LAST: u16 = 65535;
 pub struct Output {
     pub waiting: u16,
     pub open: bool,
+}
+
+// Writes all of it, or says on standard error that answers are missing.
+fn written(text: &[u8]) -> bool {
+    if io::write_all(STDOUT_FILENO, text) {
+        return true;
+    }
+    io::write_all(
+        STDERR_FILENO,
+        b"everyroot: a write failed; answers are missing\n",
+    );
+    false
 }
 
 // Hands the first n bytes on. After a write that failed there is no other.
@@ -26,7 +39,7 @@ fn handed_on(open: bool, buffer: &[u8], n: usize) -> Output
     }
     Output {
         waiting: 0,
-        open: io::write_all(STDOUT_FILENO, &buffer[..n]),
+        open: written(&buffer[..n]),
     }
 }
 

@@ -14,6 +14,7 @@ use crate::output::with_answer;
 use frames::OpenLine;
 use frames::limits::ANSWER_ROOM;
 use frames::limits::MOST_DIGITS;
+use libc::STDERR_FILENO;
 use libc::STDIN_FILENO;
 
 // The line that has begun, and where the output stands.
@@ -78,6 +79,25 @@ fn worked(
     state
 }
 
+// A read has failed, and the line that had begun is not whole: it is forgotten, so that no part of a line is answered as if it were one.
+fn cut_off(s: State) -> After
+    requires { ⌜ s .output .waiting ≤ outputRoom ⌝ }
+    ensures { λ r. ⌜ r .state .output .waiting ≤ outputRoom ⌝ }
+{
+    io::write_all(
+        STDERR_FILENO,
+        b"gfroots: a read failed; only the lines before it are answered\n",
+    );
+    let output = s.output;
+    After {
+        state: State {
+            begun: OpenLine { length: 0 },
+            output,
+        },
+        more: false,
+    }
+}
+
 // One read, and all that it brought: the answers are handed on before the next read. A failed write ends the run.
 fn turn(
     s: State,
@@ -89,7 +109,10 @@ fn turn(
     ensures { λ r. ⌜ r .state .output .waiting ≤ outputRoom ⌝ }
 {
     let got = libc::read(STDIN_FILENO, chunk);
-    if got <= 0 {
+    if got < 0 {
+        return cut_off(s);
+    }
+    if got == 0 {
         return After {
             state: s,
             more: false,

@@ -5,6 +5,7 @@ ghost use lib.ListN.{length};
 ghost use Rattle.frames.specs.Limits.{answerRoom};
 ghost use Rattle.gfroots.specs.Limits.{outputRoom};
 use frames::limits::ANSWER_ROOM;
+use libc::STDERR_FILENO;
 use libc::STDOUT_FILENO;
 
 pub const OUTPUT_ROOM: usize = 65536;
@@ -13,6 +14,18 @@ pub const OUTPUT_ROOM: usize = 65536;
 pub struct Output {
     pub waiting: usize,
     pub goes_on: bool,
+}
+
+// Writes all of it, or says on standard error that answers are missing.
+fn written(text: &[u8]) -> bool {
+    if io::write_all(STDOUT_FILENO, text) {
+        return true;
+    }
+    io::write_all(
+        STDERR_FILENO,
+        b"gfroots: a write failed; answers are missing\n",
+    );
+    false
 }
 
 // Hands on what waits. After a write that failed there is no other.
@@ -29,7 +42,7 @@ pub fn handed_on(o: Output, buffer: &[u8]) -> Output
     }
     Output {
         waiting: 0,
-        goes_on: io::write_all(STDOUT_FILENO, &buffer[..n]),
+        goes_on: written(&buffer[..n]),
     }
 }
 
