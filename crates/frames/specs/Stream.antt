@@ -56,6 +56,7 @@ takenOf chunk = elim (ends chunk) [ true ↦ length (beforeFeed chunk) + 1 | fal
 abbrev pub lengthened : ℕ → ℕ → ℕ
 lengthened n k = min (n + k) (mostDigits + 1)
 
+-- the length of the line that has begun, after a call
 abbrev pub lengthAfter : ℕ → List ℕ → ℕ
 lengthAfter n chunk = elim (ends chunk) [ true ↦ 0 | false ↦ lengthened n (length chunk) ]
 
@@ -63,6 +64,7 @@ lengthAfter n chunk = elim (ends chunk) [ true ↦ 0 | false ↦ lengthened n (l
 unfoldable pub keptAfter : ℕ → List ℕ → List ℕ → List ℕ
 keptAfter n line bytes = sets line n (take (mostDigits - n) bytes)
 
+-- the list that keeps the line's bytes, after a call
 abbrev pub lineAfter : ℕ → List ℕ → List ℕ → List ℕ
 lineAfter n line chunk = keptAfter n line (beforeFeed chunk)
 
