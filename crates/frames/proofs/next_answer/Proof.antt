@@ -3,8 +3,6 @@ use mathlib.Core.Path.{sym, _∙_}
 use native.Mathlib.Omega.{arith}
 use borrow.Author.Needs.{needs}
 use lib.Seq.{length-take-le}
-use Rattle.frames.specs.Stream.{held}
-use Rattle.frames.proofs.Fitting.{line-short}
 use Rattle.frames.proofs.Feeds.{feed-within}
 use Rattle.frames.proofs.OneCall.{goes-on, line-ends}
 use Rattle.frames.proofs.next_answer.Statement.{statement}
@@ -31,9 +29,7 @@ put-line-requires : tie.Need-put-line-requires
 put-line-requires c κs = search needs
 
 counted-requires : tie.Need-counted-requires
-counted-requires c κs =
-    let w = c .before .before .put-line .ensures .0 in
-    omega (arith, line-short (held (c .before .before .before .before .before .before .kept .result) (c .before .before .before .before .before .before .kept .last .0)), w, c .counted-arg2 .given .0)
+counted-requires c κs = omega (arith, c .before .before .put-line .ensures .1 .1, c .counted-arg2 .given .0)
 
 add-t13 : tie.Need-add-t13
 add-t13 c =
@@ -47,7 +43,7 @@ returns-2 c =
     let long = c .before .before .before .before .before .before .before .before .before .kept-arg .given .0 .1 in
     let w = c .before .before .before .put-line .ensures in
     let n = c .counted .ensures in
-    line-ends (a .begun .length) _ (a .chunk .now) _ _ _ (c .before .before .before .before .before .before .before .before .before .before .until-feed .ensures) (k .0) (k .1) long _ (c .before .before .before .before .before .before .if1 .left) (n .0 ∙ w .0) (w .1) (n .1)
+    line-ends (a .begun .length) _ (a .chunk .now) _ _ _ (c .before .before .before .before .before .before .before .before .before .before .until-feed .ensures) (k .0) (k .1) long _ (c .before .before .before .before .before .before .if1 .left) (n .0 ∙ w .0) (w .1 .0) (n .1)
 
 pub next-answer-spec : {M : Type 1} → statement M
 next-answer-spec =

@@ -3,7 +3,7 @@ ghost use mathlib.Core.Path.{_≡_};
 ghost use Prim.Native.Nat.{_+_, _-_, _≤_, _<_, min};
 ghost use lib.ListN.{length, take};
 ghost use lib.Seq.{sets};
-ghost use Rattle.frames.specs.Limits.{mostDigits};
+ghost use Rattle.frames.specs.Limits.{mostDigits, answerRoom};
 ghost use Rattle.frames.specs.Text.{putBytes};
 ghost use Rattle.frames.specs.Answer.{answerBytes};
 ghost use Rattle.frames.specs.Stream.{beforeFeed, lengthened, keptAfter, held, answerLine};
@@ -93,6 +93,7 @@ fn put_held(out: &mut [u8; ANSWER_ROOM], line: &[u8; MOST_DIGITS], n: usize) -> 
 pub fn put_line(out: &mut [u8; ANSWER_ROOM], line: &[u8; MOST_DIGITS], n: usize) -> usize
     ensures { λ r. ⌜ r ≡ length (answerLine (held n (now (line .entry)))) ⌝ }
     ensures { λ _. ⌜ now (out .exit) ≡ sets (now (out .entry)) 0 (answerLine (held n (now (line .entry)))) ⌝ }
+    ensures { λ r. ⌜ r ≤ answerRoom ⌝ }
 {
     let length = 2 * put_held(out, line, n);
     out[length] = LINE_FEED;

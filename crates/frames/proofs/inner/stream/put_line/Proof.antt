@@ -34,7 +34,8 @@ returns c =
     let a = c .before .before .args in
     let l = held (a .n) (a .line .now) in
     let e = c .put-held .ensures in
-    (line-length l _ (e .0), put-after _ (answerBytes l) _ lineFeed (ap (λ (n : ℕ). 2 * n) (e .0)) (e .1))
+    let few = answer-short l in
+    (line-length l _ (e .0), (put-after _ (answerBytes l) _ lineFeed (ap (λ (n : ℕ). 2 * n) (e .0)) (e .1), omega (arith, few, e .0)))
 
 pub put-line-spec : {M : Type 1} → statement M
 put-line-spec =
