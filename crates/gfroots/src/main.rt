@@ -3,7 +3,7 @@
 ghost use mathlib.Core.Path.{_≡_};
 ghost use Prim.Native.Nat.{_≤_};
 ghost use Rattle.frames.specs.Stream.{takenOf};
-ghost use Rattle.gfroots.specs.Limits.{outputRoom};
+ghost use Rattle.gfroots.specs.Output.{outputRoom};
 
 mod output;
 
@@ -48,7 +48,8 @@ fn call(
 {
     let mut answer: [u8; ANSWER_ROOM] = [0; ANSWER_ROOM];
     let p = frames::next_answer(s.begun, line, chunk, &mut answer);
-    let output = with_answer(s.output, buffer, &answer, p.written);
+    let n = p.written;
+    let output = with_answer(s.output, buffer, &answer[..n]);
     let begun = p.line;
     Called {
         state: State { begun, output },
@@ -157,7 +158,7 @@ fn last(s: State, line: &[u8; MOST_DIGITS], buffer: &mut [u8; OUTPUT_ROOM])
 {
     let mut answer: [u8; ANSWER_ROOM] = [0; ANSWER_ROOM];
     let written = frames::last_answer(s.begun, line, &mut answer);
-    let output = with_answer(s.output, buffer, &answer, written);
+    let output = with_answer(s.output, buffer, &answer[..written]);
     handed_on(output, buffer);
 }
 

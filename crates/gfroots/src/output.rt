@@ -2,8 +2,9 @@
 ghost use mathlib.Core.Path.{_≡_};
 ghost use Prim.Native.Nat.{_+_, _≤_};
 ghost use lib.ListN.{length};
+ghost use lib.Seq.{sets};
 ghost use Rattle.frames.specs.Limits.{answerRoom};
-ghost use Rattle.gfroots.specs.Limits.{outputRoom};
+ghost use Rattle.gfroots.specs.Output.{outputRoom, nextPlace};
 use frames::limits::ANSWER_ROOM;
 use libc::STDERR_FILENO;
 use libc::STDOUT_FILENO;
@@ -47,8 +48,9 @@ pub fn handed_on(o: Output, buffer: &[u8]) -> Output
 }
 
 // Room for one answer more.
-fn with_room(o: Output, buffer: &mut [u8; OUTPUT_ROOM]) -> Output
+fn with_room(o: Output, buffer: &[u8; OUTPUT_ROOM]) -> Output
     requires { ⌜ o .waiting ≤ outputRoom ⌝ }
+    ensures { λ r. ⌜ r .waiting ≡ nextPlace (o .waiting) ⌝ }
     ensures { λ r. ⌜ r .waiting + answerRoom ≤ outputRoom ⌝ }
 {
     if o.waiting + ANSWER_ROOM <= OUTPUT_ROOM {
@@ -57,28 +59,26 @@ fn with_room(o: Output, buffer: &mut [u8; OUTPUT_ROOM]) -> Output
     handed_on(o, buffer)
 }
 
-fn copy(buffer: &mut [u8; OUTPUT_ROOM], at: usize, answer: &[u8; ANSWER_ROOM], n: usize)
-    requires { ⌜ (at + answerRoom ≤ outputRoom) × (n ≤ answerRoom) ⌝ }
+fn copy(buffer: &mut [u8; OUTPUT_ROOM], at: usize, text: &[u8])
+    requires { ⌜ at + length (now text) ≤ outputRoom ⌝ }
+    ensures { λ _. ⌜ now (buffer .exit) ≡ sets (now (buffer .entry)) at (now (text .entry)) ⌝ }
 {
-    for i in 0..n {
-        buffer[at + i] = answer[i];
+    for i in 0..text.len() {
+        buffer[at + i] = text[i];
     }
 }
 
-// The first n characters of an answer, added.
-pub fn with_answer(
-    o: Output,
-    buffer: &mut [u8; OUTPUT_ROOM],
-    answer: &[u8; ANSWER_ROOM],
-    n: usize,
-) -> Output
-    requires { ⌜ (o .waiting ≤ outputRoom) × (n ≤ answerRoom) ⌝ }
+// An answer, added after what waits.
+pub fn with_answer(o: Output, buffer: &mut [u8; OUTPUT_ROOM], text: &[u8]) -> Output
+    requires { ⌜ (o .waiting ≤ outputRoom) × (length (now text) ≤ answerRoom) ⌝ }
+    ensures { λ r. ⌜ r .waiting ≡ nextPlace (o .waiting) + length (now (text .entry)) ⌝ }
     ensures { λ r. ⌜ r .waiting ≤ outputRoom ⌝ }
+    ensures { λ _. ⌜ now (buffer .exit) ≡ sets (now (buffer .entry)) (nextPlace (o .waiting)) (now (text .entry)) ⌝ }
 {
     let p = with_room(o, buffer);
-    copy(buffer, p.waiting, answer, n);
+    copy(buffer, p.waiting, text);
     Output {
-        waiting: p.waiting + n,
+        waiting: p.waiting + text.len(),
         goes_on: p.goes_on,
     }
 }

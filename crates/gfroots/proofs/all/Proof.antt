@@ -4,7 +4,7 @@ use Prim.Native.Nat.{_≤_}
 use native.Mathlib.Omega.{arith}
 use borrow.Author.Needs.{needs}
 use lib.ListN.{length}
-use Rattle.gfroots.specs.Limits.{outputRoom}
+use Rattle.gfroots.specs.Output.{outputRoom}
 use Rattle.gfroots.proofs.all.Statement.{statement}
 use Rattle.gfroots.proofs.all.Tie as tie
 

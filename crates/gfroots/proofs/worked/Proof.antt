@@ -3,7 +3,7 @@ use Prim.Native.Nat.{_-_, _≤_}
 use native.Mathlib.Omega.{arith}
 use borrow.Author.Needs.{needs}
 use lib.ListN.{length}
-use Rattle.gfroots.specs.Limits.{outputRoom}
+use Rattle.gfroots.specs.Output.{outputRoom}
 use Rattle.gfroots.proofs.Rest.{next-within, next-further}
 use Rattle.gfroots.proofs.worked.Statement.{statement}
 use Rattle.gfroots.proofs.worked.Tie as tie

@@ -1,20 +1,25 @@
--- `copy` meets its contract. Assumes nothing.
+-- `copy` meets its contract: each turn stores the next character. Assumes nothing.
+use mathlib.Core.Path.{_≡_, refl, ap, _∙_}
 use Prim.Native.Nat.{_-_, _≤_}
+use native.Mathlib.Omega.{arith}
 use borrow.Author.Needs.{needs}
+use lib.ListN.{length, take}
+use lib.Seq.{sets, take-all}
+use Rattle.frames.proofs.Keeping.{kept-turn}
 use Rattle.gfroots.proofs.output.copy.Statement.{statement}
 use Rattle.gfroots.proofs.output.copy.Tie as tie
 
 abbrev Inv-loop : tie.InvT-loop
-Inv-loop buffer₀ at answer n i₀ buffer i = i ≤ n
+Inv-loop buffer₀ at text i₀ i-end buffer i = (i ≤ length text) × (buffer ≡ sets buffer₀ at (take i text))
 
 abbrev μ-loop : tie.MeasureT-loop
-μ-loop buffer₀ at answer n i₀ buffer i = n - i
+μ-loop buffer₀ at text i₀ i-end buffer i = i-end - i
 
 loop-holds : tie.Need-loop-holds Inv-loop μ-loop
-loop-holds c = search needs
+loop-holds c = (omega arith, refl)
 
-element-copy-out-buffer : tie.Need-element-copy-out-buffer Inv-loop μ-loop
-element-copy-out-buffer c = search needs
+shared-slice-read-buffer : tie.Need-shared-slice-read-buffer Inv-loop μ-loop
+shared-slice-read-buffer c = search needs
 
 add-buffer : tie.Need-add-buffer Inv-loop μ-loop
 add-buffer c = search needs
@@ -29,10 +34,15 @@ loop-less : tie.Need-loop-less Inv-loop μ-loop
 loop-less c = search needs
 
 loop-again : tie.Need-loop-again Inv-loop μ-loop
-loop-again c = search needs
+loop-again c =
+    let l = c .before .before .loop in
+    (omega arith, kept-turn _ _ _ (l .i) (omega arith) (l .inv .1))
 
 returns : tie.Need-returns Inv-loop μ-loop
-returns c = search needs
+returns c =
+    let l = c .before .loop in
+    let a = c .before .before .args in
+    l .inv .1 ∙ ap (sets (a .buffer .now) (a .at)) (take-all (l .i) (a .text .now) (omega arith))
 
 pub copy-spec : {M : Type 1} → statement M
 copy-spec =
@@ -41,7 +51,7 @@ copy-spec =
     Inv-loop
     μ-loop
     loop-holds
-    element-copy-out-buffer
+    shared-slice-read-buffer
     add-buffer
     element-write-buffer
     add-i
