@@ -3,7 +3,7 @@
 -- what follows (`answers-then`). Assumes nothing.
 use mathlib.Core.Path.{_≡_, refl, sym, ap, subst, _∙_}
 use mathlib.Core.Logic.{_≢_}
-use mathlib.Core.Bool.{Bool, true, false}
+use mathlib.Core.Bool.{true, false}
 use mathlib.Core.List.{List, [], _∷_, _++_, append-assoc, append-nil}
 use Prim.Native.Nat.{ℕ, suc, _+_, _≤_, _<_}
 use native.Mathlib.Decide.{ℕ-discrete}
@@ -13,6 +13,7 @@ use lib.ListN.{length, drop, length-drop}
 use lib.Seq.{append-snoc}
 use Rattle.frames.specs.Stream.{lineFeed, linesAfter, answerLine, answersOf, output, beforeFeed, ends, takenOf}
 use Rattle.frames.proofs.Feeds.{feed-here, feed-not-here}
+use Rattle.frames.proofs.OneCall.{taken-some}
 
 -- ---- one byte
 
@@ -82,11 +83,7 @@ lines-open cur chunk rest e =
 -- one call takes a byte at the least, where there is one
 pub left-over : (k : ℕ) (chunk : List ℕ) → length chunk ≤ suc k → length (drop (takenOf chunk) chunk) ≤ k
 left-over k [] h = omega arith
-left-over k (b ∷ bs) h = go (ends (b ∷ bs))
-  where
-    go : (t : Bool) → length (drop (elim t [ true ↦ length (beforeFeed (b ∷ bs)) + 1 | false ↦ length (b ∷ bs) ]) (b ∷ bs)) ≤ k
-    go true = omega (arith, length-drop (length (beforeFeed (b ∷ bs)) + 1) (b ∷ bs))
-    go false = omega (arith, length-drop (length (b ∷ bs)) (b ∷ bs))
+left-over k (b ∷ bs) h = omega (arith, length-drop (takenOf (b ∷ bs)) (b ∷ bs), taken-some (b ∷ bs) (omega arith))
 
 -- ---- line by line
 
