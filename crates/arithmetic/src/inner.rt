@@ -2,3 +2,4 @@
 pub mod inverse;
 pub mod logarithm;
 pub mod power;
+pub mod root;

@@ -14,6 +14,7 @@ use crate::limits::SMALLEST_DEGREE;
 use arithmetic::inner::inverse;
 use arithmetic::inner::logarithm;
 use arithmetic::inner::power;
+use arithmetic::inner::root;
 use binary::inner::modulo;
 
 // Three readings of "14", each its own kind of value: going between them is a named call.
@@ -122,7 +123,7 @@ pub fn square_root(p: u32, b: Element) -> ElementAnswer
         return ElementAnswer::TurnedDown(refused);
     }
     let m = refusal::degree_of(p);
-    ElementAnswer::Found(Element(power::square_root(p, m, b.0)))
+    ElementAnswer::Found(Element(root::square_root(p, m, b.0)))
 }
 
 // 0 or 1.

@@ -1,7 +1,7 @@
-// Powers, the square root and the trace.
+// Powers and the trace.
 ghost use mathlib.Core.Path.{_≡_};
 ghost use mathlib.Core.Bool.{true};
-ghost use Prim.Native.Nat.{_-_, _^_, _<_};
+ghost use Prim.Native.Nat.{_^_, _<_};
 ghost use lib.IntN.{pos, natAbs};
 ghost use lib.Signed.{ltZ};
 ghost use Rattle.binary.specs.Product.{product};
@@ -68,18 +68,6 @@ pub fn power(p: u32, m: u32, a: u32, e: i32) -> u32
         return raised(p, m, base, size);
     }
     raised(p, m, a, size)
-}
-
-// m - 1 squarings.
-pub fn square_root(p: u32, m: u32, b: u32) -> u32
-    requires { ⌜ FieldModulus m p × (b < 2 ^ m) ⌝ }
-    ensures { λ r. ⌜ r ≡ power p b (2 ^ (m - 1)) ⌝ }
-{
-    let mut root = b;
-    for k in 1..m {
-        root = product(p, m, root, root);
-    }
-    root
 }
 
 // The sum of c and its squares, m terms.

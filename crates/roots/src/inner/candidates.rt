@@ -17,7 +17,7 @@ use affine::inner::answer::root_count;
 use affine::inner::equation::solution;
 use arithmetic::inner::inverse::inverse;
 use arithmetic::inner::inverse::quotient;
-use arithmetic::inner::power::square_root;
+use arithmetic::inner::root::square_root;
 use binary::inner::modulo::product;
 use linear::inner::solution::Solution;
 
