@@ -1,5 +1,5 @@
 -- A list whose entries are given in order, one a turn: the first k are done, the rest is as it was. Assumes nothing.
-use mathlib.Core.Path.{_≡_, refl, sym, _∙_}
+use mathlib.Core.Path.{_≡_, refl, sym, ap, _∙_}
 use mathlib.Core.List.{List}
 use Prim.Native.Nat.{ℕ, _+_, _≤_, _<_}
 use native.Mathlib.Omega.{arith}
@@ -25,6 +25,11 @@ filled-put f old out k v l e i =
           (getD-set-same out k v 0 (omega (arith, i .long)) ∙ e);
       rest = λ j h. getD-set-other out k j v 0 (λ q. absurd (omega arith)) ∙ i .rest j (omega arith);
     }
+
+-- an entry changed where it stands, to g of its place and of what it was
+pub filled-change : (g : ℕ → ℕ → ℕ) (old out : List ℕ) (k v : ℕ) → k < length old → v ≡ g k (getD out k 0) → Filled (λ j. g j (getD old j 0)) old out k
+    → Filled (λ j. g j (getD old j 0)) old (set out k v) (k + 1)
+filled-change g old out k v l e i = filled-put _ old out k v l (e ∙ ap (g k) (i .rest k (omega arith))) i
 
 -- all of it done: it is the list with these entries
 pub filled-all : (f : ℕ → ℕ) (old out l : List ℕ) (k : ℕ) → Filled f old out k → length old ≤ k → length l ≡ length old

@@ -2,17 +2,20 @@
 -- Assumes nothing.
 use mathlib.Core.Path.{_≡_, refl, sym, ap, ap₂, _∙_}
 use Prim.Native.Nat.{ℕ, suc, _+_, _-_, _*_, _/_, _%_, _^_, _≤_, _<_}
-use native.Mathlib.Nat.{zero-mul, one-mul, mul-assoc, lt-of-mul-lt-mul-right, le-of-mul-le-mul-right, mul-div-cancel}
+use native.Mathlib.Nat.{zero-mul, one-mul, mul-assoc, lt-of-mul-lt-mul-right, le-of-mul-le-mul-right, mul-div-cancel, zero-div}
 use native.Mathlib.Decide.{decLt}
 use native.Mathlib.Omega.{arith}
-use lib.Bits.{bitXor}
+use lib.Dec.{eqb}
 use lib.Pow.{pow-pos, pow-add, shl-lt, shl-exact}
+use borrow.Author.Tests.{eqb-true, eq-eqb}
+use Rattle.algebra.proofs.Search.{same-test}
 use Rattle.binary.specs.Xor.{_⊕_, Degree}
-use Rattle.binary.proofs.Xor.{is-xor, xor-zero, exp-lt}
+use Rattle.binary.proofs.Xor.{xor-zero, exp-lt}
 use Rattle.binary.proofs.Times.{times-xor}
-use Rattle.binary.specs.Remainder.{remainder}
+use Rattle.binary.specs.Remainder.{remainder, divides}
 use Rattle.binary.proofs.Remainder.{remainder-small}
 use Rattle.binary.specs.Factor.{Division}
+use Rattle.binary.specs.Block.{raise, turn}
 use Rattle.binary.proofs.Shift.{shift-is, shift-exact, lowered-mod, lowered-lt}
 
 -- rest is a value with p's remainder modulo d, s places up
@@ -34,7 +37,7 @@ aligned-start m p d dp l =
     let e : suc m ≡ 32 - (31 - m) = omega arith in
     record { value = p; is = shift-exact m 31 p dp l (omega arith); small = rw (← e) (dp .1); same = refl }
 
-pub aligned-lt : (p d rest s : ℕ) → s ≤ 32 → Aligned p d rest s → rest < 2 ^ 32
+aligned-lt : (p d rest s : ℕ) → s ≤ 32 → Aligned p d rest s → rest < 2 ^ 32
 aligned-lt p d rest s l A =
     let e : (32 - s) + s ≡ 32 = omega arith in
     rw (A .is) (rw e at (shl-lt {a = A .value} (32 - s) s (A .small)))
@@ -63,34 +66,52 @@ module _ (k p d rest s : ℕ) (dd : Degree k d) (l : s + k ≤ 31) (A : Aligned 
       let f : 31 - s ≡ 32 - (s + 1) = omega arith in
       record { value = v; is = ap (λ (x : ℕ). (x * 2) % 2 ^ 32) e ∙ place v s (omega arith) h; small = rw (← f) h; same = q }
 
-  pub aligned-turn : (t : ℕ) → rest < 2 ^ 32 → t ≡ rest / 2 ^ 31 * ((d * 2 ^ (31 - k)) % 2 ^ 32) → Aligned p d ((bitXor rest t * 2) % 2 ^ 32) (s + 1)
-  aligned-turn t fits et = go (decLt rest (2 ^ 31))
+  pub aligned-turn : Aligned p d (turn (raise k d) rest) (s + 1)
+  unfolding turn
+  aligned-turn = go (decLt rest (2 ^ 31))
     where
       v : ℕ
       v = A .value
 
-      exact : (d * 2 ^ (31 - k)) % 2 ^ 32 ≡ (d * 2 ^ ((31 - s) - k)) * 2 ^ s
+      D : ℕ
+      D = raise k d
+
+      fits : rest < 2 ^ 32
+      fits = aligned-lt p d rest s (omega arith) A
+
+      exact : D ≡ (d * 2 ^ ((31 - s) - k)) * 2 ^ s
       exact = shift-exact k 31 d dd (omega arith) (omega arith) ∙ lower
 
-      go : Dec (rest < 2 ^ 31) → Aligned p d ((bitXor rest t * 2) % 2 ^ 32) (s + 1)
+      go : Dec (rest < 2 ^ 31) → Aligned p d (((rest ⊕ rest / 2 ^ 31 * D) * 2) % 2 ^ 32) (s + 1)
       go (yes b) =
           let z : rest / 2 ^ 31 ≡ 0 = omega arith in
           let u : v * 2 ^ s < 2 ^ (31 - s) * 2 ^ s = omega (arith, A .is, split) in
-          let y : t ≡ 0 = et ∙ ap (λ (x : ℕ). x * ((d * 2 ^ (31 - k)) % 2 ^ 32)) z ∙ zero-mul _ in
-          next v (lt-of-mul-lt-mul-right (2 ^ s) u) (A .same) (bitXor rest t)
-          (sym (is-xor rest t) ∙ ap (λ (x : ℕ). rest ⊕ x) y ∙ xor-zero rest ∙ A .is)
+          let y : rest / 2 ^ 31 * D ≡ 0 = ap (λ (x : ℕ). x * D) z ∙ zero-mul D in
+          next v (lt-of-mul-lt-mul-right (2 ^ s) u) (A .same) (rest ⊕ rest / 2 ^ 31 * D) (ap (λ (x : ℕ). rest ⊕ x) y ∙ xor-zero rest ∙ A .is)
       go (no n) =
+          let w = fits in
           let z : rest / 2 ^ 31 ≡ 1 = omega arith in
           let u : 2 ^ (31 - s) * 2 ^ s ≤ v * 2 ^ s = omega (arith, A .is, split) in
-          let y : t ≡ (d * 2 ^ ((31 - s) - k)) * 2 ^ s = et ∙ ap (λ (x : ℕ). x * ((d * 2 ^ (31 - k)) % 2 ^ 32)) z ∙ one-mul _ ∙ exact in
+          let y : rest / 2 ^ 31 * D ≡ (d * 2 ^ ((31 - s) - k)) * 2 ^ s = ap (λ (x : ℕ). x * D) z ∙ one-mul D ∙ exact in
           let e : 32 - s ≡ suc (31 - s) = omega arith in
           let dv : Degree (31 - s) v = (le-of-mul-le-mul-right u (pow-pos s), rw e at (A .small)) in
-          next (v ⊕ d * 2 ^ ((31 - s) - k)) (lowered-lt k (31 - s) v d dd dv (omega arith)) (lowered-mod k (31 - s) v d dd dv (omega arith) ∙ A .same) (bitXor rest t)
-          (sym (is-xor rest t) ∙ ap₂ _⊕_ (A .is) y ∙ shift-xor v (d * 2 ^ ((31 - s) - k)) s)
+          next (v ⊕ d * 2 ^ ((31 - s) - k)) (lowered-lt k (31 - s) v d dd dv (omega arith)) (lowered-mod k (31 - s) v d dd dv (omega arith) ∙ A .same)
+          (rest ⊕ rest / 2 ^ 31 * D)
+          (ap₂ _⊕_ (A .is) y ∙ shift-xor v (d * 2 ^ ((31 - s) - k)) s)
 
 -- at the end the value is the remainder
-pub aligned-end : (k p d rest s : ℕ) → Degree k d → k ≤ 32 → s ≡ 32 - k → Aligned p d rest s → rest / 2 ^ (32 - k) ≡ remainder p d
-aligned-end k p d rest s dd l e A =
-    let f : 32 - s ≡ k = omega arith in
-    ap (λ (j : ℕ). rest / 2 ^ j) (sym e) ∙ ap (λ (x : ℕ). x / 2 ^ s) (A .is) ∙ mul-div-cancel (A .value) (pow-pos s)
-    ∙ sym (remainder-small k d dd (A .value) (rw f at (A .small))) ∙ A .same
+module _ (k p d rest s : ℕ) (dd : Degree k d) (l : k ≤ 32) (e : s ≡ 32 - k) (A : Aligned p d rest s) where
+  value-is : A .value ≡ remainder p d
+  value-is = let f : 32 - s ≡ k = omega arith in sym (remainder-small k d dd (A .value) (rw f at (A .small))) ∙ A .same
+
+  pub aligned-end : rest / 2 ^ (32 - k) ≡ remainder p d
+  aligned-end =
+      ap (λ (j : ℕ). rest / 2 ^ j) (sym e) ∙ ap (λ (x : ℕ). x / 2 ^ s) (A .is) ∙ mul-div-cancel (A .value) (pow-pos s) ∙ value-is
+
+  -- and the rest is 0 where d divides
+  pub aligned-zero : eqb rest 0 ≡ divides d p
+  aligned-zero =
+      same-test (eqb rest 0) (divides d p) (
+        λ z. eq-eqb (remainder p d) 0 (sym aligned-end ∙ ap (λ (x : ℕ). x / 2 ^ (32 - k)) (eqb-true rest 0 z) ∙ zero-div (2 ^ (32 - k))),
+        λ z. eq-eqb rest 0 (A .is ∙ ap (λ (x : ℕ). x * 2 ^ s) (value-is ∙ eqb-true (remainder p d) 0 z) ∙ zero-mul (2 ^ s)),
+      )

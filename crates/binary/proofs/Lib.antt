@@ -10,3 +10,4 @@ pub mod Factor
 pub mod Shift
 pub mod Modulus
 pub mod Aligned
+pub mod Block

@@ -4,4 +4,5 @@ pub mod Fold
 pub mod Times
 pub mod Remainder
 pub mod Product
+pub mod Block
 pub mod Factor

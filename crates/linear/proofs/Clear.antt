@@ -8,7 +8,7 @@ use native.Mathlib.Omega.{arith}
 use native.Mathlib.Decide.{ℕ-discrete}
 use lib.ListN.{length, getD, set, length-set, length-map, List·getD-map}
 use lib.Seq.{getD-set-same, getD-set-other}
-use Rattle.algebra.proofs.Filled.{Filled, filled-put, filled-all}
+use Rattle.algebra.proofs.Filled.{Filled, filled-change, filled-all}
 use Rattle.binary.specs.Xor.{_⊕_}
 use Rattle.binary.specs.Bit.{bit}
 use Rattle.binary.proofs.Xor.{zero-xor, xor-zero, by-digit}
@@ -71,7 +71,7 @@ clear-row k p l lp j = pick (ℕ-discrete j p)
 -- the code's loop over the rows, and what it has done at its end
 pub clear-turn : (k pivot : ℕ) (old out : List ℕ) (i v : ℕ) → i < length old → v ≡ plus k pivot (getD out i 0)
     → Filled (λ j. plus k pivot (getD old j 0)) old out i → Filled (λ j. plus k pivot (getD old j 0)) old (set out i v) (i + 1)
-clear-turn k pivot old out i v h e w = filled-put _ old out i v h (e ∙ ap (plus k pivot) (w .rest i (omega arith))) w
+clear-turn k pivot old out i v h e w = filled-change (λ j. plus k pivot) old out i v h e w
 
 pub clear-end : (k p : ℕ) (old out : List ℕ) (i : ℕ) → length old ≤ i → Filled (λ j. plus k (getD old p 0) (getD old j 0)) old out i
     → set out p (getD old p 0) ≡ clear k p old

@@ -2,9 +2,9 @@
 use Prim.Native.Nat.{_-_, _≤_}
 use native.Mathlib.Omega.{arith}
 use borrow.Author.Needs.{needs}
-use Rattle.binary.proofs.Aligned.{Aligned, divisor-degree, aligned-start, aligned-lt, aligned-turn, aligned-end}
-use Rattle.binary.proofs.inner.factor.remainder.Statement.{statement}
-use Rattle.binary.proofs.inner.factor.remainder.Tie as tie
+use Rattle.binary.proofs.Aligned.{Aligned, divisor-degree, aligned-start, aligned-turn, aligned-end}
+use Rattle.binary.proofs.inner.division.remainder.Statement.{statement}
+use Rattle.binary.proofs.inner.division.remainder.Tie as tie
 
 abbrev Inv-loop : tie.InvT-loop
 Inv-loop a m d k divisor rest₀ s₀ s-end rest s = (s ≤ s-end) × Aligned a d rest s
@@ -39,12 +39,8 @@ loop-holds c =
     let w = divisor-degree (c .before .pre) (c .degree .ensures) in
     (omega arith, aligned-start (a .m) (a .a) (a .d) (c .before .pre .degree) (omega arith))
 
-picked-requires : tie.Need-picked-requires Inv-loop μ-loop
-picked-requires c κs =
-    let a = c .before .before .before .args in
-    let l = c .before .loop in
-    let w = aligned-lt (a .a) (a .d) (l .rest) (l .s) (omega (arith, l .inv .0)) (l .inv .1) in
-    omega arith
+turned-requires : tie.Need-turned-requires Inv-loop μ-loop
+turned-requires c κs = search needs
 
 add-s : tie.Need-add-s Inv-loop μ-loop
 add-s c = omega (arith, c .before .before .loop .inv .0)
@@ -58,8 +54,7 @@ loop-again c =
     let l = c .before .before .loop in
     let g = c .before .before .before .degree in (
       omega arith,
-      aligned-turn (g .result) (a .a) (a .d) (l .rest) (l .s) (g .ensures) (omega arith) (l .inv .1) (c .picked .result)
-          (aligned-lt (a .a) (a .d) (l .rest) (l .s) (omega (arith, l .inv .0)) (l .inv .1)) (c .picked .ensures),
+      rw (c .turned .ensures) (aligned-turn (g .result) (a .a) (a .d) (l .rest) (l .s) (g .ensures) (omega arith) (l .inv .1)),
     )
 
 sub-result : tie.Need-sub-result Inv-loop μ-loop
@@ -90,7 +85,7 @@ remainder-spec =
     sub-s
     sub-s-end
     loop-holds
-    picked-requires
+    turned-requires
     add-s
     loop-less
     loop-again
