@@ -1,4 +1,4 @@
--- The entries of a list of five, one by one (`five-entries`), and of an equation by its kind. Assumes nothing.
+-- The entries of a list of five or four, one by one (`five-entries`, `four-entries`), and of an equation by its kind. Assumes nothing.
 use mathlib.Core.Path.{_≡_, refl, _∙_}
 use mathlib.Core.List.{List, [], _∷_}
 use Prim.Native.Nat.{ℕ}
@@ -15,6 +15,14 @@ five-entries (a ∷ b ∷ c ∷ []) h = absurd (omega arith)
 five-entries (a ∷ b ∷ c ∷ d ∷ []) h = absurd (omega arith)
 five-entries (a ∷ b ∷ c ∷ d ∷ e ∷ []) h = refl
 five-entries (a ∷ b ∷ c ∷ d ∷ e ∷ f ∷ l) h = absurd (omega arith)
+
+pub four-entries : (l : List ℕ) → length l ≡ 4 → l ≡ getD l 0 0 ∷ getD l 1 0 ∷ getD l 2 0 ∷ getD l 3 0 ∷ []
+four-entries [] h = absurd (omega arith)
+four-entries (a ∷ []) h = absurd (omega arith)
+four-entries (a ∷ b ∷ []) h = absurd (omega arith)
+four-entries (a ∷ b ∷ c ∷ []) h = absurd (omega arith)
+four-entries (a ∷ b ∷ c ∷ d ∷ []) h = refl
+four-entries (a ∷ b ∷ c ∷ d ∷ e ∷ l) h = absurd (omega arith)
 
 -- two numbers without a bit between them
 no-bits : (a b : ℕ) → bitOr a b ≡ 0 → (a ≡ 0) × (b ≡ 0)

@@ -2,7 +2,7 @@
 -- roots as the degree (`ones-are`). Assumes nothing.
 use mathlib.Core.Path.{_≡_, sym, ap, _∙_, subst}
 use mathlib.Core.List.{List, map}
-use Prim.Native.Nat.{ℕ, _^_, _≤_, _<_}
+use Prim.Native.Nat.{ℕ, _≤_, _<_}
 use native.Mathlib.Omega.{arith}
 use lib.ListN.{length, getD, replicate, length-map}
 use Rattle.algebra.specs.Lists.{padded}
@@ -13,11 +13,11 @@ use Rattle.galois.specs.Roots.{rootsOf}
 use Rattle.galois.specs.Multiplicity.{multiplicity}
 use Rattle.galois.proofs.RootList.{roots-iff, roots-few}
 use Rattle.galois.proofs.Degree.{all-once}
-use Rattle.galois.specs.Polynomial.{IsDegree}
+use Rattle.galois.specs.Polynomial.{IsDegree, Root}
 use Rattle.roots.specs.Limits.{mostRoots, mostCoefficients}
 use Rattle.roots.specs.Equation.{Ready}
-use Rattle.roots.specs.Search.{foundOf}
-use Rattle.roots.specs.declared.inner.search.Found.{Found}
+use Rattle.roots.specs.Sorting.{foundOf}
+use Rattle.roots.specs.declared.inner.sorting.Found.{Found}
 
 module _ (m p : ℕ) (f : List ℕ) (R : Ready m p f) (five : length f ≡ mostCoefficients) (found : Found) (e : found ≡ foundOf (rootsOf m p f)) where
   abbrev rs : List ℕ
@@ -35,9 +35,9 @@ module _ (m p : ℕ) (f : List ℕ) (R : Ready m p f) (five : length f ≡ mostC
   root-at : (i : ℕ) → getD (found .roots) i 0 ≡ getD rs i 0
   root-at i = ap (λ (s : Found). getD (s .roots) i 0) e ∙ padded-at mostRoots rs i
 
-  pub count-ready : (i : ℕ) → i < found .count → getD (found .roots) i 0 < 2 ^ m
+  pub count-ready : (i : ℕ) → i < found .count → Root m p f (getD (found .roots) i 0)
   count-ready i l =
-      subst (λ (x : ℕ). x < 2 ^ m) (sym (root-at i)) (roots-iff m p f (getD rs i 0) .0 (entry-member rs i (omega (arith, count-length))) .0)
+      subst (Root m p f) (sym (root-at i)) (roots-iff m p f (getD rs i 0) .0 (entry-member rs i (omega (arith, count-length))))
 
   pub count-is : (i k : ℕ) → i < found .count → k ≡ multiplicity p (getD (found .roots) i 0) f → k ≡ getD counts i 0
   count-is i k l q =

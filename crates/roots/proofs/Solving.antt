@@ -12,8 +12,8 @@ use Rattle.field.proofs.Refusal.{answered-by}
 use Rattle.roots.specs.Limits.{mostRoots, mostCoefficients}
 use Rattle.roots.specs.Calls.{Answer, equationTests, refusedAnswer, solved, solveAnswer}
 use Rattle.roots.specs.Equation.{Ready}
-use Rattle.roots.specs.Search.{foundOf}
-use Rattle.roots.specs.declared.inner.search.Found.{Found}
+use Rattle.roots.specs.Sorting.{foundOf}
+use Rattle.roots.specs.declared.inner.sorting.Found.{Found}
 use Rattle.roots.proofs.Tests.{five-ready, solved-padded}
 
 module _ (p : ℕ) (cs : List ℕ) (r : ℕ) (e : r ≡ refusal (equationTests p cs)) (z : r ≡ 0) (m : ℕ) (d : m ≡ degreeOf p) (f : List ℕ)

@@ -1,12 +1,11 @@
 -- At most four solutions: base and two directions list them, and they are the roots (`solutions-are`, `solutions-few`). Assumes nothing.
 use mathlib.Core.Path.{_≡_, refl, sym, ap, _∙_}
-use mathlib.Core.List.{List, [], _∷_, _++_, map}
+use mathlib.Core.List.{List, [], _∷_, map}
 use Prim.Native.Nat.{ℕ, _≤_, _<_}
 use native.Mathlib.Decide.{ℕ-discrete}
 use native.Mathlib.Omega.{arith}
 use lib.Bits.{bitXor}
 use lib.ListN.{length, getD, take}
-use lib.Seq.{take-append-le}
 use Rattle.algebra.specs.Lists.{countUp}
 use Rattle.algebra.proofs.Front.{front-map}
 use Rattle.binary.specs.Xor.{_⊕_}
@@ -29,11 +28,11 @@ use Rattle.roots.proofs.Folding.{folded-ready, folded-roots}
 
 -- what the code lists
 abbrev pub four : ℕ → ℕ → ℕ → List ℕ
-four b d e = b ∷ bitXor b d ∷ bitXor b e ∷ bitXor (bitXor b d) e ∷ 0 ∷ []
+four b d e = b ∷ bitXor b d ∷ bitXor b e ∷ bitXor (bitXor b d) e ∷ []
 
 -- are the first four places
-four-are : (b : ℕ) (ds : List ℕ) → four b (getD ds 0 0) (getD ds 1 0) ≡ map (λ k. b ⊕ choose ds k) (countUp 0 4) ++ 0 ∷ []
-four-are b ds = λ i. first i ∷ second i ∷ third i ∷ fourth i ∷ 0 ∷ []
+four-are : (b : ℕ) (ds : List ℕ) → four b (getD ds 0 0) (getD ds 1 0) ≡ map (λ k. b ⊕ choose ds k) (countUp 0 4)
+four-are b ds = λ i. first i ∷ second i ∷ third i ∷ fourth i ∷ []
   where
     first : b ≡ b ⊕ choose ds 0
     first = sym (ap (λ (v : ℕ). b ⊕ v) (choose-zero ds) ∙ xor-zero b)
@@ -52,8 +51,7 @@ four-are b ds = λ i. first i ∷ second i ∷ third i ∷ fourth i ∷ 0 ∷ []
 -- and so many of them as are asked for
 four-front : (b : ℕ) (ds : List ℕ) (n : ℕ) → n ≤ 4 → take n (four b (getD ds 0 0) (getD ds 1 0)) ≡ map (λ k. b ⊕ choose ds k) (countUp 0 n)
 four-front b ds n h =
-    ap (take n) (four-are b ds) ∙ take-append-le n (map (λ k. b ⊕ choose ds k) (countUp 0 4)) (0 ∷ []) h
-    ∙ front-map (λ k. b ⊕ choose ds k) 0 n 4 h
+    ap (take n) (four-are b ds) ∙ front-map (λ k. b ⊕ choose ds k) 0 n 4 h
 
 module _ (m p c l0 l1 l2 : ℕ) (R : Ready m p (quarticOf c l0 l1 l2)) (s : Solution) (e : s ≡ solutionOf p (folded m c l0 l1 l2)) where
   abbrev cs : List ℕ

@@ -1,4 +1,5 @@
--- What the code asks of an equation, and the steps from it to its candidates (E1 to E4). Assumes nothing.
+-- What the code asks of an equation, and the steps from it to its roots (E1 to E4). Assumes nothing.
+use mathlib.Core.Logic.{_↔_}
 use mathlib.Core.Bool.{Bool, true, false}
 use mathlib.Core.List.{List, [], _∷_}
 use Prim.Native.Nat.{ℕ, _-_, _^_, _≤_, _<_}
@@ -18,10 +19,9 @@ pub record Ready (m p : ℕ) (f : List ℕ) : Type 0 where
   pub small : Coeffs m f
   pub nonzero : AllZero f → ⊥
 
--- candidates: elements, none twice, with every root of f among them
-pub record Covers (m p : ℕ) (f xs : List ℕ) : Type 0 where
-  pub every : (x : ℕ) → Root m p f x → Member x xs
-  pub elements : (x : ℕ) → Member x xs → x < 2 ^ m
+-- the roots of f and nothing else, none twice, in no order
+pub record HoldsRoots (m p : ℕ) (f xs : List ℕ) : Type 0 where
+  pub are : (x : ℕ) → Member x xs ↔ Root m p f x
   pub once : Nodup xs
 
 -- c + l0·x + l1·x^2 + l2·x^4 as a polynomial

@@ -2,5 +2,5 @@ pub mod Limits
 pub mod Calls
 pub mod Answers
 pub mod Equation
-pub mod Candidates
-pub mod Search
+pub mod Unsorted
+pub mod Sorting

@@ -1,8 +1,8 @@
 // Code that asks something of its caller (each `requires` says what).
 pub mod building;
-pub mod candidates;
 pub mod equation;
 pub mod insertion;
 pub mod multiplicity;
 pub mod polynomial;
-pub mod search;
+pub mod sorting;
+pub mod unsorted;

@@ -8,10 +8,10 @@ pub mod inner;
 pub mod limits;
 
 use crate::inner::building;
-use crate::inner::candidates::candidates_of;
 use crate::inner::equation;
 use crate::inner::multiplicity::multiplicities;
-use crate::inner::search::roots_among;
+use crate::inner::sorting::ascending;
+use crate::inner::unsorted::roots_of;
 use crate::limits::MOST_COEFFICIENTS;
 use crate::limits::MOST_ROOTS;
 use field::inner::refusal::degree_of;
@@ -55,7 +55,7 @@ pub fn solve(p: u32, coefficients: &[u32]) -> RootsAnswer
     }
     let m = degree_of(p);
     let f = equation::five(coefficients);
-    let found = roots_among(p, m, f, candidates_of(p, m, f));
+    let found = ascending(roots_of(p, m, f));
     let roots = found.roots;
     let multiplicities = multiplicities(p, m, f, found);
     RootsAnswer {

@@ -4,17 +4,18 @@ ghost use mathlib.Core.List.{[], _∷_, _++_, map};
 ghost use Prim.Native.Nat.{_^_, _≤_, _<_};
 ghost use lib.ListN.{drop, replicate};
 ghost use Rattle.algebra.specs.Lists.{padded};
-ghost use Rattle.galois.specs.Polynomial.{Coeffs, AllZero, IsDegree};
+ghost use Rattle.galois.specs.Polynomial.{Coeffs, AllZero, IsDegree, Root};
 ghost use Rattle.galois.specs.Roots.{rootsOf};
 ghost use Rattle.galois.specs.Multiplicity.{multiplicity};
 ghost use Rattle.arithmetic.specs.Modulus.{FieldModulus};
 ghost use Rattle.roots.specs.Limits.{mostRoots};
 ghost use Rattle.roots.specs.Equation.{Ready};
-ghost use Rattle.roots.specs.Search.{foundOf};
+ghost use Rattle.roots.specs.Sorting.{foundOf};
 use crate::inner::polynomial::divided;
-use crate::inner::search::Found;
+use crate::inner::sorting::Found;
 use crate::limits::MOST_COEFFICIENTS;
 use crate::limits::MOST_ROOTS;
+use binary::inner::modulo::product;
 
 // The quotient: the entries after the first, and no coefficient in the last place.
 fn quotient(sums: [u32; MOST_COEFFICIENTS]) -> [u32; MOST_COEFFICIENTS]
@@ -23,7 +24,8 @@ fn quotient(sums: [u32; MOST_COEFFICIENTS]) -> [u32; MOST_COEFFICIENTS]
     [sums[1], sums[2], sums[3], sums[4], 0]
 }
 
-fn multiplicity(p: u32, m: u32, f: [u32; MOST_COEFFICIENTS], r: u32) -> u32
+// One division after the other, until one leaves a remainder.
+fn divisions(p: u32, m: u32, f: [u32; MOST_COEFFICIENTS], r: u32) -> u32
     requires { ⌜ FieldModulus m p × Coeffs m f × (r < 2 ^ m) ⌝ }
     ensures { λ k. ⌜ k ≡ multiplicity p r f ⌝ }
 {
@@ -36,6 +38,17 @@ fn multiplicity(p: u32, m: u32, f: [u32; MOST_COEFFICIENTS], r: u32) -> u32
         left = quotient(sums);
     }
     MOST_COEFFICIENTS as u32
+}
+
+// At a root r the quotient by x + r has the value of the derivative, c1 + c3·r^2: where that is not 0, x + r divides once (E5).
+fn multiplicity(p: u32, m: u32, f: [u32; MOST_COEFFICIENTS], r: u32) -> u32
+    requires { ⌜ FieldModulus m p × Coeffs m f × Root m p f r ⌝ }
+    ensures { λ k. ⌜ k ≡ multiplicity p r f ⌝ }
+{
+    if f[1] ^ product(p, m, f[3], product(p, m, r, r)) != 0 {
+        return 1;
+    }
+    divisions(p, m, f, r)
 }
 
 // The highest coefficient that is not 0.

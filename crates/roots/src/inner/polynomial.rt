@@ -1,9 +1,9 @@
-// A polynomial of degree up to 4 by its five coefficients, constant first: its value and its division by x + r, and its product with x + a.
+// A polynomial of degree up to 4 by its five coefficients, constant first: its division by x + r, and its product with x + a.
 ghost use mathlib.Core.Path.{_≡_};
 ghost use mathlib.Core.List.{_++_};
 ghost use Prim.Native.Nat.{suc, _^_, _<_};
 ghost use lib.ListN.{take, drop};
-ghost use Rattle.galois.specs.Polynomial.{value, Coeffs, sums, withRoot};
+ghost use Rattle.galois.specs.Polynomial.{Coeffs, sums, withRoot};
 ghost use Rattle.arithmetic.specs.Modulus.{FieldModulus};
 ghost use Rattle.roots.specs.Limits.{mostCoefficients};
 use crate::limits::MOST_COEFFICIENTS;
@@ -22,14 +22,6 @@ pub fn divided(p: u32, m: u32, f: [u32; MOST_COEFFICIENTS], r: u32) -> [u32; MOS
         out[i] = f[i] ^ product(p, m, r, above);
     }
     out
-}
-
-pub fn value(p: u32, m: u32, f: [u32; MOST_COEFFICIENTS], x: u32) -> u32
-    requires { ⌜ FieldModulus m p × Coeffs m f × (x < 2 ^ m) ⌝ }
-    ensures { λ r. ⌜ r ≡ value p f x ⌝ }
-{
-    let sums = divided(p, m, f, x);
-    sums[0]
 }
 
 // (x + a) times the polynomial of the first n coefficients: each one is multiplied by a, and the one below it is added.

@@ -1,75 +1,46 @@
--- `multiplicity` meets its contract: k divisions are done, and those still to come make up the multiplicity. Assumes nothing.
-use mathlib.Core.Path.{_≡_, sym, _∙_}
-use Prim.Native.Nat.{_-_}
+-- `multiplicity` meets its contract. Assumes nothing.
 use borrow.Author.Needs.{needs}
-use Rattle.roots.specs.Limits.{mostCoefficients}
-use Rattle.roots.proofs.Counting.{Counting, counting-start, counting-stop, counting-next, counting-end}
+use Rattle.galois.proofs.Power.{mul-lt}
+use Rattle.galois.proofs.Polynomial.{coeff-at}
+use Rattle.roots.proofs.Derivative.{simple-root}
 use Rattle.roots.proofs.inner.multiplicity.multiplicity.Statement.{statement}
 use Rattle.roots.proofs.inner.multiplicity.multiplicity.Tie as tie
 
-abbrev Inv-loop : tie.InvT-loop
-Inv-loop p m r left₀ k₀ left k = Counting m p r left₀ left k
-
-abbrev μ-loop : tie.MeasureT-loop
-μ-loop p m r left₀ k₀ left k = mostCoefficients - k
-
-loop-holds : tie.Need-loop-holds Inv-loop μ-loop
-loop-holds c = counting-start _ _ _ _ (c .pre .1)
-
-divided-requires : tie.Need-divided-requires Inv-loop μ-loop
-divided-requires c κs =
-    let P = c .before .before .pre in
-    (P .0, c .before .loop .inv .small, P .2)
-
-array-read-if1 : tie.Need-array-read-if1 Inv-loop μ-loop
+array-read-if1 : tie.Need-array-read-if1
 array-read-if1 c = search needs
 
-cast-result : tie.Need-cast-result Inv-loop μ-loop
-cast-result c = search needs
+array-read-product : tie.Need-array-read-product
+array-read-product c = search needs
 
-returns : tie.Need-returns Inv-loop μ-loop
+product-requires : tie.Need-product-requires
+product-requires c κs = search needs
+
+product-requires-2 : tie.Need-product-requires-2
+product-requires-2 c κs =
+    let P = c .before .pre in
+    let a = c .before .args in
+    (P .0 .modulus, coeff-at _ (a .t3) 3 (P .1), rw (c .product .ensures) (mul-lt _ _ (P .0 .field) (a .r) (a .r)))
+
+returns : tie.Need-returns
 returns c =
-    let l = c .before .before .before .loop in
-    counting-stop _ _ _ _ _ _ (l .k) (search needs) (c .before .divided .ensures) (l .inv) (c .if1 .taken)
+    let P = c .before .before .before .pre in
+    simple-root _ _ (P .0 .field) _ (P .2 .0) (c .before .before .before .args .t3) (search needs) (P .1) (P .2 .1) _ _
+    (c .before .before .product .ensures) (c .before .product2 .ensures) (c .if1 .taken)
 
-quotient-requires : tie.Need-quotient-requires Inv-loop μ-loop
-quotient-requires c κs = search needs
+divisions-requires : tie.Need-divisions-requires
+divisions-requires c κs = search needs
 
-add-k : tie.Need-add-k Inv-loop μ-loop
-add-k c = search needs
-
-loop-less : tie.Need-loop-less Inv-loop μ-loop
-loop-less c = search needs
-
-loop-again : tie.Need-loop-again Inv-loop μ-loop
-loop-again c =
-    let l = c .before .before .before .before .loop in
-    let P = c .before .before .before .before .before .pre in
-    counting-next _ _ _ _ _ _ (l .k) (search needs) (c .before .before .divided .ensures) (l .inv) (P .0 .field) _ (c .before .if1 .left) (c .quotient .ensures)
-
-cast-result-2 : tie.Need-cast-result-2 Inv-loop μ-loop
-cast-result-2 c = search needs
-
-returns-2 : tie.Need-returns-2 Inv-loop μ-loop
-returns-2 c =
-    let l = c .before .loop in
-    let e : l .k ≡ mostCoefficients = search needs in
-    sym e ∙ counting-end _ _ _ _ _ (l .k) (search needs) (l .inv)
+returns-2 : tie.Need-returns-2
+returns-2 c = search needs
 
 pub multiplicity-spec : {M : Type 1} → statement M
 multiplicity-spec =
     tie.close
     (tie.spec
-    Inv-loop
-    μ-loop
-    loop-holds
-    divided-requires
     array-read-if1
-    cast-result
+    array-read-product
+    product-requires
+    product-requires-2
     returns
-    quotient-requires
-    add-k
-    loop-less
-    loop-again
-    cast-result-2
+    divisions-requires
     returns-2)

@@ -3,8 +3,8 @@ use mathlib.Core.Path.{refl}
 use native.Mathlib.Omega.{arith}
 use borrow.Author.Needs.{needs}
 use Rattle.roots.proofs.Spaces.{space-fits, solutions-few, solutions-are}
-use Rattle.roots.proofs.inner.candidates.solutions.Statement.{statement}
-use Rattle.roots.proofs.inner.candidates.solutions.Tie as tie
+use Rattle.roots.proofs.inner.unsorted.solutions.Statement.{statement}
+use Rattle.roots.proofs.inner.unsorted.solutions.Tie as tie
 
 space-requires : tie.Need-space-requires
 space-requires c κs = search needs
@@ -28,7 +28,7 @@ returns c =
     let P = c .before .before .before .before .before .before .pre in
     let e = c .before .before .before .before .before .space .ensures in
     let q = c .before .before .before .root-count .ensures in
-    record { are = solutions-are _ _ _ _ _ _ P _ e _ q; few = let l = solutions-few _ _ _ _ _ _ P _ e in omega (arith, q); long = refl }
+    (solutions-are _ _ _ _ _ _ P _ e _ q, record { few = let l = solutions-few _ _ _ _ _ _ P _ e in omega (arith, q); long = refl })
 
 pub solutions-spec : {M : Type 1} → statement M
 solutions-spec =

@@ -1,12 +1,12 @@
--- `candidates_of` meets its contract. Assumes nothing.
+-- `roots_of` meets its contract. Assumes nothing.
 use mathlib.Core.Path.{refl}
 use borrow.Author.Needs.{needs}
 use lib.ListN.{getD}
 use Rattle.roots.specs.Equation.{quarticOf}
 use Rattle.roots.proofs.Entries.{as-cubic, as-affine, as-linear, as-constant}
-use Rattle.roots.proofs.Completing.{ready-as, candidates-as, affine-candidates, constant-candidates}
-use Rattle.roots.proofs.inner.candidates.candidates_of.Statement.{statement}
-use Rattle.roots.proofs.inner.candidates.candidates_of.Tie as tie
+use Rattle.roots.proofs.Completing.{ready-as, roots-as, affine-roots, constant-roots}
+use Rattle.roots.proofs.inner.unsorted.roots_of.Statement.{statement}
+use Rattle.roots.proofs.inner.unsorted.roots_of.Tie as tie
 
 array-read-if1 : tie.Need-array-read-if1
 array-read-if1 c = search needs
@@ -40,7 +40,7 @@ of-cubic-requires c κs =
 returns-2 : tie.Need-returns-2
 returns-2 c =
     let f = c .before .before .before .args .t3 in
-    candidates-as _ _ f _ _ (as-cubic f (search needs) (c .before .if2 .left)) (c .of-cubic .ensures)
+    roots-as _ _ f _ _ (as-cubic f (search needs) (c .before .if2 .left)) (c .of-cubic .ensures)
 
 array-read-if3 : tie.Need-array-read-if3
 array-read-if3 c = search needs
@@ -68,8 +68,8 @@ solutions-requires c κs =
 returns-3 : tie.Need-returns-3
 returns-3 c =
     let f = c .before .before .before .args .t3 in
-    candidates-as _ _ f (quarticOf (getD f 0 0) (getD f 1 0) (getD f 2 0) (getD f 4 0)) _ (as-affine f (search needs) (c .before .before .if1 .left))
-    (affine-candidates _ _ _ _ (c .solutions .ensures))
+    roots-as _ _ f (quarticOf (getD f 0 0) (getD f 1 0) (getD f 2 0) (getD f 4 0)) _ (as-affine f (search needs) (c .before .before .if1 .left))
+    (affine-roots _ _ _ _ (c .solutions .ensures))
 
 array-read-if4 : tie.Need-array-read-if4
 array-read-if4 c = search needs
@@ -88,16 +88,16 @@ of-linear-requires c κs =
 returns-4 : tie.Need-returns-4
 returns-4 c =
     let f = c .before .before .before .before .args .t3 in
-    candidates-as _ _ f _ _ (as-linear f (search needs) (c .before .before .if3 .left) (c .before .before .before .if1 .left)) (c .of-linear .ensures)
+    roots-as _ _ f _ _ (as-linear f (search needs) (c .before .before .if3 .left) (c .before .before .before .if1 .left)) (c .of-linear .ensures)
 
 returns-5 : tie.Need-returns-5
 returns-5 c =
     let f = c .before .before .before .args .t3 in
     let e = as-constant f (search needs) (c .if4 .left) (c .before .if3 .left) (c .before .before .if1 .left) in
-    candidates-as _ _ f _ _ e (constant-candidates _ _ _ _ (ready-as _ _ f _ e (c .before .before .before .pre)) refl)
+    roots-as _ _ f _ _ e (constant-roots _ _ _ _ (ready-as _ _ f _ e (c .before .before .before .pre)) refl)
 
-pub candidates-of-spec : {M : Type 1} → statement M
-candidates-of-spec =
+pub roots-of-spec : {M : Type 1} → statement M
+roots-of-spec =
     tie.close
     (tie.spec
     array-read-if1

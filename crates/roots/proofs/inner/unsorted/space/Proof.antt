@@ -4,8 +4,8 @@ use borrow.Author.Needs.{needs}
 use Rattle.binary.specs.Factor.{degreeOf}
 use Rattle.affine.specs.Equation.{Ready, solutionOf}
 use Rattle.roots.proofs.Folding.{folded-short, folded-long, folded-ready}
-use Rattle.roots.proofs.inner.candidates.space.Statement.{statement}
-use Rattle.roots.proofs.inner.candidates.space.Tie as tie
+use Rattle.roots.proofs.inner.unsorted.space.Statement.{statement}
+use Rattle.roots.proofs.inner.unsorted.space.Tie as tie
 
 slice-aggregate-solution : tie.Need-slice-aggregate-solution
 slice-aggregate-solution c = search needs
