@@ -16,15 +16,15 @@ use Rattle.roots.specs.Sorting.{foundOf}
 use Rattle.roots.specs.declared.inner.sorting.Found.{Found}
 use Rattle.roots.proofs.Tests.{five-ready, solved-padded}
 
-module _ (p : ℕ) (cs : List ℕ) (r : ℕ) (e : r ≡ refusal (equationTests p cs)) (z : r ≡ 0) (m : ℕ) (d : m ≡ degreeOf p) (f : List ℕ)
+module _ (p : ℕ) (cs : List ℕ) (z : refusal (equationTests p cs) ≡ 0) (m : ℕ) (d : m ≡ degreeOf p) (f : List ℕ)
     (q : f ≡ padded mostCoefficients cs) where
   pub solve-ready : Ready m p f
-  solve-ready = rw q (five-ready p cs (sym e ∙ z) m d)
+  solve-ready = rw q (five-ready p cs z m d)
 
   pub solve-answer : (found : Found) → found ≡ foundOf (rootsOf m p f) → (ks : List ℕ) → ks ≡ padded mostRoots (map (λ k. multiplicity p k f) (rootsOf m p f))
       → record { says = gives (found .count); roots = found .roots; multiplicities = ks } ≡ solveAnswer p cs
   solve-answer found g ks h =
       ap₂ (λ (s : Found) (l : List ℕ). record { says = gives (s .count); roots = s .roots; multiplicities = l }) g h
       ∙ ap₂ (λ (n : ℕ) (l : List ℕ). solved p l (rootsOf n p l)) d q
-      ∙ solved-padded p cs (sym e ∙ z)
-      ∙ answered-by refusedAnswer (solved p cs (rootsOf (degreeOf p) p cs)) (equationTests p cs) (sym e ∙ z)
+      ∙ solved-padded p cs z
+      ∙ answered-by refusedAnswer (solved p cs (rootsOf (degreeOf p) p cs)) (equationTests p cs) z

@@ -4,5 +4,6 @@ pub mod equation;
 pub mod insertion;
 pub mod multiplicity;
 pub mod polynomial;
+pub mod solved;
 pub mod sorting;
 pub mod unsorted;

@@ -9,9 +9,7 @@ pub mod limits;
 
 use crate::inner::building;
 use crate::inner::equation;
-use crate::inner::multiplicity::multiplicities;
-use crate::inner::sorting::ascending;
-use crate::inner::unsorted::roots_of;
+use crate::inner::solved::solved;
 use crate::limits::MOST_COEFFICIENTS;
 use crate::limits::MOST_ROOTS;
 use field::inner::refusal::degree_of;
@@ -53,16 +51,7 @@ pub fn solve(p: u32, coefficients: &[u32]) -> RootsAnswer
             multiplicities: [0; MOST_ROOTS],
         };
     }
-    let m = degree_of(p);
-    let f = equation::five(coefficients);
-    let found = ascending(roots_of(p, m, f));
-    let roots = found.roots;
-    let multiplicities = multiplicities(p, m, f, found);
-    RootsAnswer {
-        count: RootCount::Solved(found.count as u32),
-        roots,
-        multiplicities,
-    }
+    solved(p, coefficients)
 }
 
 // The coefficients of the product of all (x + r), constant first.
