@@ -1,0 +1,6 @@
+pub mod Room
+pub mod Copying
+pub mod Refusing
+pub mod Answers
+pub mod Listing
+pub mod Texts
