@@ -3,11 +3,12 @@
  *
  * Every call returns 0 with its values at the front of the lists that the caller lends, or the number that it is turned down by, and then
  * no lent entry is touched. No input is forbidden, and any two answers to one input are the same. A list is lent as a pointer and the
- * number of entries that it has. A list that has no room for its values is turned down by GFROOTS_NO_PLACE, after every other number;
- * entries after the values stay as they were. The calls keep nothing between them, allocate nothing, and may run at the same time.
+ * number of entries that it has. How much room a list needs is said below and does not depend on what is found, except in
+ * gfroots_list_roots; a shorter list is turned down by GFROOTS_NO_PLACE, after every other number. Entries after the values stay as they
+ * were. The calls keep nothing between them, allocate nothing, and use nothing of the C library but memcpy and memset.
  *
- * What the caller owes, and no call can test: a pointer is never NULL, also where the list has no entry; it points to as many entries as
- * its length says; and a list that a call writes to overlaps no other list of the same call.
+ * What the caller owes, and no call can test: a pointer is never NULL, also where the list has no entry; it is aligned for its type and
+ * points to as many entries as its length says; and a list that a call writes to overlaps no other list of the same call.
  *
  * An element of the field is a number below 2^m: bit i stands for x^i. p is the field polynomial, 4 to 131071 (19 is x^4 + x + 1, m = 4).
  */
@@ -38,7 +39,7 @@ extern "C" {
 #define GFROOTS_SPACE 3              /* found, k, base */
 #define GFROOTS_DIRECTIONS 16        /* directions */
 #define GFROOTS_LIST_ROOM 65536      /* all roots of any affine equation */
-#define GFROOTS_ANSWER_ROOM 77       /* the answer to a line */
+#define GFROOTS_ANSWER_ROOM 77       /* the answer to a line, and a line feed that the caller may put after it; no call writes a NUL */
 
 /* Where gfroots_affine_solve puts its three values. */
 #define GFROOTS_SPACE_FOUND 0
@@ -80,18 +81,20 @@ uint32_t gfroots_power_of_x(uint32_t p, int32_t exponent, uint32_t *element, siz
 
 /*
  * All roots of the polynomial with these one to five coefficients, constant first. count[0] is the number of different roots; they stand
- * ascending at the front of roots[0..4], each with its multiplicity in the same place of multiplicities[0..4]; unused places become 0.
+ * ascending in the first places of roots, each with its multiplicity in the same place of multiplicities; of the first four places of
+ * both lists those that are not needed become 0.
  */
 uint32_t gfroots_solve(uint32_t p, const uint32_t *coefficients, size_t coefficients_len, uint32_t *count, size_t count_len,
                        uint32_t *roots, size_t roots_len, uint32_t *multiplicities, size_t multiplicities_len);
 
-/* coefficients[0..5], constant first, are those of the product of all (x + r), r the up to four roots. No root gives 1. */
+/* The first five coefficients, constant first, become those of the product of all (x + r), r the up to four roots. No root gives 1. */
 uint32_t gfroots_build(uint32_t p, const uint32_t *roots, size_t roots_len, uint32_t *coefficients, size_t coefficients_len);
 
 /*
  * All roots of the affine equation c + l0*x + l1*x^2 + l2*x^4 + .. = 0 with the 1 to m + 1 coefficients c, l0, l1, ..:
- * space[0] is 1 where there is a root, else 0; space[1] is k; space[2] is the base, the smallest root; directions[0..k] are the directions,
- * the places after them up to 16 become 0. The 2^k roots are the base combined by exclusive or with every choice of the directions.
+ * space[0] is 1 where there is a root, else 0; space[1] is k; space[2] is the base, the smallest root. The k directions stand in the first
+ * places of directions; of its first 16 places the others become 0. The 2^k roots are the base combined by exclusive or with every choice
+ * of the directions.
  */
 uint32_t gfroots_affine_solve(uint32_t p, const uint32_t *coefficients, size_t coefficients_len, uint32_t *space, size_t space_len,
                               uint32_t *directions, size_t directions_len);

@@ -8,7 +8,7 @@ use Prim.Native.Nat.{ℕ, zero, suc, _≤_, _<_}
 use native.Mathlib.Omega.{arith}
 use borrow.Author.Tests.{le-leb, lt-leb}
 use lib.ListN.{length, drop, set}
-use Rattle.field.specs.Refusal.{Outcome, turnedDown, gives}
+use Rattle.field.specs.Refusal.{Outcome, turnedDown}
 use Rattle.firmware.specs.Lent.{fits, returned, after, valueOf, Refuses}
 
 pub fits-long : (n : ℕ) (list : List ℕ) → n ≤ length list → fits n list ≡ true
@@ -29,11 +29,6 @@ no-second false b e = refl
 pub by-second : (a b : Bool) → a ≡ true → (a && b) ≡ b
 by-second true b e = refl
 by-second false b e = absurd (false≢true e)
-
--- where a value is given, room is what counts
-pub same-room : {A B : Type 0} (v : A) (w : B) (room : Bool) {r : ℕ} → r ≡ returned (gives v) room → r ≡ returned (gives w) room
-same-room v w true e = e
-same-room v w false e = e
 
 -- turned down, a call leaves a list as it was
 pub kept : (n : ℕ) (values list : List ℕ) → n ≢ 0 → list ≡ after n values list

@@ -15,11 +15,15 @@ use Rattle.frames.specs.Limits.{answerRoom}
 abbrev pub fits : ℕ → List ℕ → Bool
 fits n list = leb n (length list)
 
--- "each returns the refusal number or 0"; "a slice with no room is turned down by 7", after every other number
+-- "a slice with no room is turned down by 7"
+abbrev pub roomNumber : Bool → ℕ
+roomNumber true = 0
+roomNumber false = 7
+
+-- "each returns the refusal number or 0": room is looked at after everything else
 abbrev pub returned : {A : Type 0} → Outcome A → Bool → ℕ
 returned (turnedDown n) room = n
-returned (gives v) true = 0
-returned (gives v) false = 7
+returned (gives v) room = roomNumber room
 
 -- what stands in a lent list after a call that returned this number: after 0 the values, "entries after them stay untouched"; after any
 -- other "no lent entry is touched"

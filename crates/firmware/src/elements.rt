@@ -2,8 +2,8 @@
 ghost use mathlib.Core.Path.{_≡_};
 ghost use Rattle.field.specs.Calls.{acceptOutcome, sumOutcome, productOutcome, quotientOutcome, powerOutcome, squareRootOutcome, traceOutcome, numberOutcome, elementOutcome, powerOfXOutcome, houseOutcome};
 ghost use Rattle.firmware.specs.Lent.{fits, returned, after, valueOf};
-use crate::lent::put;
-use crate::lent::put_element;
+use crate::inner::lent::put;
+use crate::inner::lent::put_element;
 use field::DegreeAnswer;
 use field::Element;
 use field::Exponent;

@@ -1,11 +1,11 @@
 // Equations of degree up to 4.
 ghost use mathlib.Core.Path.{_≡_};
-ghost use Rattle.field.specs.Refusal.{gives};
+ghost use mathlib.Core.List.{[], _∷_};
 ghost use Rattle.roots.specs.Limits.{mostCoefficients};
 ghost use Rattle.roots.specs.Calls.{solveAnswer, buildAnswer};
-ghost use Rattle.firmware.specs.Lent.{fits, returned, after, valueOf, rootsFit};
-use crate::lent::put;
-use crate::lent::put_all;
+ghost use Rattle.firmware.specs.Lent.{fits, returned, after, valueOf, rootsFit, roomNumber};
+use crate::inner::lent::put;
+use crate::inner::lent::put_all;
 use field::refused;
 use roots::Building;
 use roots::RootCount;
@@ -21,8 +21,8 @@ fn put_roots(
     roots: &mut [u32],
     multiplicities: &mut [u32],
 ) -> u32
-    ensures { λ r. ⌜ r ≡ returned (gives n) (rootsFit (now (count .entry)) (now (roots .entry)) (now (multiplicities .entry))) ⌝ }
-    ensures { λ r. ⌜ now (count .exit) ≡ after r (valueOf (gives n)) (now (count .entry)) ⌝ }
+    ensures { λ r. ⌜ r ≡ roomNumber (rootsFit (now (count .entry)) (now (roots .entry)) (now (multiplicities .entry))) ⌝ }
+    ensures { λ r. ⌜ now (count .exit) ≡ after r (n ∷ []) (now (count .entry)) ⌝ }
     ensures { λ r. ⌜ now (roots .exit) ≡ after r found (now (roots .entry)) ⌝ }
     ensures { λ r. ⌜ now (multiplicities .exit) ≡ after r often (now (multiplicities .entry)) ⌝ }
 {
@@ -66,7 +66,7 @@ pub extern "C" fn gfroots_solve(
 }
 
 fn put_coefficients(built: [u32; MOST_COEFFICIENTS], coefficients: &mut [u32]) -> u32
-    ensures { λ r. ⌜ r ≡ returned (gives (tt {0})) (fits mostCoefficients (now (coefficients .entry))) ⌝ }
+    ensures { λ r. ⌜ r ≡ roomNumber (fits mostCoefficients (now (coefficients .entry))) ⌝ }
     ensures { λ r. ⌜ now (coefficients .exit) ≡ after r built (now (coefficients .entry)) ⌝ }
 {
     if coefficients.len() < MOST_COEFFICIENTS {

@@ -3,6 +3,6 @@
 // nothing. A lent list with no room for its values is turned down by 7, after every other number. include/gfroots.h declares the calls.
 pub mod elements;
 pub mod equations;
-pub mod lent;
+pub mod inner;
 pub mod lines;
 pub mod spaces;

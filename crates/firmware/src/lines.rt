@@ -2,17 +2,16 @@
 ghost use mathlib.Core.Path.{_≡_};
 ghost use mathlib.Core.List.{[], _∷_};
 ghost use lib.ListN.{length};
-ghost use Rattle.field.specs.Refusal.{gives};
 ghost use Rattle.frames.specs.Answer.{answerText};
-ghost use Rattle.firmware.specs.Lent.{returned, after, lineFits};
-use crate::lent::put;
+ghost use Rattle.firmware.specs.Lent.{after, lineFits, roomNumber};
+use crate::inner::lent::put;
 use field::refused;
 use frames::limits::ANSWER_ROOM;
 
 // The answer to one line, without line feeds, and how many characters it has.
 #[no_mangle]
 pub extern "C" fn gfroots_answer_line(line: &[u8], count: &mut [u32], answer: &mut [u8]) -> u32
-    ensures { λ r. ⌜ r ≡ returned (gives (tt {0})) (lineFits (now (answer .entry)) (now (count .entry))) ⌝ }
+    ensures { λ r. ⌜ r ≡ roomNumber (lineFits (now (answer .entry)) (now (count .entry))) ⌝ }
     ensures { λ r. ⌜ now (count .exit) ≡ after r (length (answerText (now (line .entry))) ∷ []) (now (count .entry)) ⌝ }
     ensures { λ r. ⌜ now (answer .exit) ≡ after r (answerText (now (line .entry))) (now (answer .entry)) ⌝ }
 {

@@ -6,11 +6,10 @@ ghost use lib.ListN.{length};
 ghost use Rattle.binary.specs.Factor.{degreeOf};
 ghost use Rattle.affine.specs.Equation.{allRoots};
 ghost use Rattle.affine.specs.Calls.{solveAnswer, placeOutcome, listingOutcome};
-ghost use Rattle.field.specs.Refusal.{gives};
-ghost use Rattle.firmware.specs.Lent.{fits, returned, after, valueOf, spaceValues, spaceFits};
-use crate::lent::put;
-use crate::lent::put_all;
-use crate::lent::put_element;
+ghost use Rattle.firmware.specs.Lent.{fits, returned, after, valueOf, spaceValues, spaceFits, roomNumber};
+use crate::inner::lent::put;
+use crate::inner::lent::put_all;
+use crate::inner::lent::put_element;
 use affine::CountAnswer;
 use affine::RootSpace;
 use field::refused;
@@ -28,7 +27,7 @@ fn put_space(
     space: &mut [u32],
     directions: &mut [u32],
 ) -> u32
-    ensures { λ r. ⌜ r ≡ returned (gives (tt {0})) (spaceFits (now (space .entry)) (now (directions .entry))) ⌝ }
+    ensures { λ r. ⌜ r ≡ roomNumber (spaceFits (now (space .entry)) (now (directions .entry))) ⌝ }
     ensures { λ r. ⌜ now (space .exit) ≡ after r (found ∷ k ∷ base ∷ []) (now (space .entry)) ⌝ }
     ensures { λ r. ⌜ now (directions .exit) ≡ after r steps (now (directions .entry)) ⌝ }
 {

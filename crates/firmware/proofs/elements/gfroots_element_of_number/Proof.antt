@@ -12,8 +12,7 @@ element-of-number-requires c κs = search needs
 
 put-element-requires : tie.Need-put-element-requires
 put-element-requires c κs =
-    let a = c .before .before .before .args in
-    subst Refuses (sym (c .before .element-of-number .ensures)) (element-refuses (a .p) (a .number))
+    subst Refuses (sym (c .before .element-of-number .ensures)) (element-refuses _ _)
 
 same-length : tie.Need-same-length
 same-length c = search needs

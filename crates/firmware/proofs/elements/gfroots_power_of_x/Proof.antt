@@ -14,7 +14,7 @@ power-of-x-requires c κs = search needs
 put-element-requires : tie.Need-put-element-requires
 put-element-requires c κs =
     let s = c .before .before .before in
-    subst Refuses (sym (rw (toZ-ofZ (s .fits .exponent)) at (c .before .power-of-x .ensures))) (power-of-x-refuses (s .args .p) (s .args .exponent))
+    subst Refuses (sym (rw (toZ-ofZ (s .fits .exponent)) at (c .before .power-of-x .ensures))) (power-of-x-refuses _ _)
 
 same-length : tie.Need-same-length
 same-length c = search needs

@@ -12,8 +12,7 @@ product-requires c κs = search needs
 
 put-element-requires : tie.Need-put-element-requires
 put-element-requires c κs =
-    let a = c .before .before .before .args in
-    subst Refuses (sym (c .before .product .ensures)) (product-refuses (a .p) (a .a) (a .b))
+    subst Refuses (sym (c .before .product .ensures)) (product-refuses _ _ _)
 
 same-length : tie.Need-same-length
 same-length c = search needs

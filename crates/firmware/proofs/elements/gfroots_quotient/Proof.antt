@@ -12,8 +12,7 @@ quotient-requires c κs = search needs
 
 put-element-requires : tie.Need-put-element-requires
 put-element-requires c κs =
-    let a = c .before .before .before .args in
-    subst Refuses (sym (c .before .quotient .ensures)) (quotient-refuses (a .p) (a .a) (a .b))
+    subst Refuses (sym (c .before .quotient .ensures)) (quotient-refuses _ _ _)
 
 same-length : tie.Need-same-length
 same-length c = search needs

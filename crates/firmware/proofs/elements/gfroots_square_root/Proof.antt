@@ -12,8 +12,7 @@ square-root-requires c κs = search needs
 
 put-element-requires : tie.Need-put-element-requires
 put-element-requires c κs =
-    let a = c .before .before .before .args in
-    subst Refuses (sym (c .before .square-root .ensures)) (root-refuses (a .p) (a .b))
+    subst Refuses (sym (c .before .square-root .ensures)) (root-refuses _ _)
 
 same-length : tie.Need-same-length
 same-length c = search needs

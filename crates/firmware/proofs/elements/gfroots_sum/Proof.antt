@@ -12,8 +12,7 @@ sum-requires c κs = search needs
 
 put-element-requires : tie.Need-put-element-requires
 put-element-requires c κs =
-    let a = c .before .before .before .args in
-    subst Refuses (sym (c .before .sum .ensures)) (sum-refuses (a .p) (a .a) (a .b))
+    subst Refuses (sym (c .before .sum .ensures)) (sum-refuses _ _ _)
 
 same-length : tie.Need-same-length
 same-length c = search needs

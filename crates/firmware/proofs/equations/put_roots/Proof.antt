@@ -2,9 +2,8 @@
 use mathlib.Core.Path.{_≡_, refl, sym, ap, _∙_}
 use native.Mathlib.Omega.{arith}
 use lib.ListN.{length}
-use Rattle.field.specs.Refusal.{gives}
 use Rattle.roots.specs.Limits.{mostRoots}
-use Rattle.firmware.specs.Lent.{fits, returned}
+use Rattle.firmware.specs.Lent.{fits, roomNumber}
 use Rattle.firmware.proofs.Room.{fits-long, fits-short, no-first, no-second, by-second, kept, put-done}
 use borrow.Author.Needs.{needs}
 use Rattle.firmware.proofs.equations.put_roots.Statement.{statement}
@@ -13,12 +12,12 @@ use Rattle.firmware.proofs.equations.put_roots.Tie as tie
 returns : tie.Need-returns
 returns c =
     let a = c .before .before .before .before .args in
-    (sym (ap (returned (gives (a .n))) (no-first _ _ (fits-short mostRoots (a .roots .now) (c .if1 .taken)))), (refl, (refl, refl)))
+    (sym (ap roomNumber (no-first _ _ (fits-short mostRoots (a .roots .now) (omega (arith, c .if1 .taken))))), (refl, (refl, refl)))
 
 returns-2 : tie.Need-returns-2
 returns-2 c =
     let a = c .before .before .before .before .before .args in
-    (sym (ap (returned (gives (a .n))) (no-second (fits mostRoots (a .roots .now)) _ (no-first _ _ (fits-short mostRoots (a .multiplicities .now) (c .if2 .taken))))), (refl, (refl, refl)))
+    (sym (ap roomNumber (no-second (fits mostRoots (a .roots .now)) _ (no-first _ _ (fits-short mostRoots (a .multiplicities .now) (omega (arith, c .if2 .taken)))))), (refl, (refl, refl)))
 
 put-requires : tie.Need-put-requires
 put-requires c κs = search needs
@@ -32,7 +31,7 @@ returns-3 c =
     let first = by-second _ _ (fits-long mostRoots (a .roots .now) (c .before .before .before .before .before .before .if1 .left)) in
     let second = by-second _ (fits 1 (a .count .now)) (fits-long mostRoots (a .multiplicities .now) (c .before .before .before .before .before .if2 .left)) in
     let put = c .before .before .before .put .ensures in
-    (put .0 ∙ sym (ap (returned (gives (a .n))) (first ∙ second)), (put .1, (kept _ _ _ (c .if3 .taken), kept _ _ _ (c .if3 .taken))))
+    (put .0 ∙ sym (ap roomNumber (first ∙ second)), (put .1, (kept _ _ _ (c .if3 .taken), kept _ _ _ (c .if3 .taken))))
 
 slice-aggregate-put-all : tie.Need-slice-aggregate-put-all
 slice-aggregate-put-all c = search needs
@@ -68,7 +67,7 @@ returns-4 c =
     let second = by-second _ (fits 1 (a .count .now)) (fits-long mostRoots (a .multiplicities .now) (c .before .before .before .before .before .before .before .before .before .before .before .before .before .before .before .if2 .left)) in
     let put = c .before .before .before .before .before .before .before .before .before .before .before .before .before .put .ensures in
     let none = c .before .before .before .before .before .before .before .before .before .before .if3 .left in (
-      sym none ∙ put .0 ∙ sym (ap (returned (gives (a .n))) (first ∙ second)),
+      sym none ∙ put .0 ∙ sym (ap roomNumber (first ∙ second)),
       (put-done _ _ _ _ none (put .1), (c .before .before .before .before .before .before .before .put-all .ensures, c .before .before .put-all2 .ensures)),
     )
 

@@ -5,11 +5,10 @@ use Prim.Native.Nat.{ℕ}
 use native.Mathlib.Omega.{arith}
 use lib.ListN.{replicate}
 use lib.Seq.{length-take-le}
-use Rattle.field.specs.Refusal.{gives}
 use Rattle.frames.specs.Limits.{answerRoom}
 use Rattle.frames.specs.Answer.{answerText}
-use Rattle.firmware.specs.Lent.{fits, returned, after}
-use Rattle.firmware.proofs.Room.{fits-long, fits-short, no-first, by-second, same-room, kept, put-done}
+use Rattle.firmware.specs.Lent.{fits, roomNumber, after}
+use Rattle.firmware.proofs.Room.{fits-long, fits-short, no-first, by-second, kept, put-done}
 use Rattle.firmware.proofs.Texts.{text-copied}
 use borrow.Author.Needs.{needs}
 use Rattle.firmware.proofs.lines.gfroots_answer_line.Statement.{statement}
@@ -18,7 +17,7 @@ use Rattle.firmware.proofs.lines.gfroots_answer_line.Tie as tie
 returns : tie.Need-returns
 returns c =
     let a = c .before .before .before .before .args in
-    (sym (ap (returned (gives tt)) (no-first _ _ (fits-short answerRoom (a .answer .now) (c .if1 .taken)))), (refl, refl))
+    (sym (ap roomNumber (no-first _ _ (fits-short answerRoom (a .answer .now) (c .if1 .taken)))), (refl, refl))
 
 answer-line-requires : tie.Need-answer-line-requires
 answer-line-requires c κs = search needs
@@ -40,7 +39,7 @@ returns-2 c =
     let text = c .before .before .before .before .before .answer-line .ensures in
     let put = c .before .before .before .put .ensures in
     let room = by-second _ (fits 1 (a .count .now)) (fits-long answerRoom (a .answer .now) (c .before .before .before .before .before .before .before .if1 .left)) in (
-      same-room {A = ℕ} {B = Unit {0}} (c .before .before .before .before .before .answer-line .result) tt (fits 1 (a .count .now)) (put .0) ∙ sym (ap (returned (gives tt)) room),
+      put .0 ∙ sym (ap roomNumber room),
       (put .1 ∙ ap (λ (n : ℕ). after (c .before .before .before .put .result) (n ∷ []) (a .count .now)) (text .0), kept _ _ _ (c .if2 .taken)),
     )
 
@@ -69,7 +68,7 @@ returns-3 c =
     let put = c .before .before .before .before .before .before .before .before .put .ensures in
     let none = c .before .before .before .before .before .if2 .left in
     let room = by-second _ (fits 1 (a .count .now)) (fits-long answerRoom (a .answer .now) (c .before .before .before .before .before .before .before .before .before .before .before .before .if1 .left)) in (
-      sym none ∙ same-room {A = ℕ} {B = Unit {0}} (c .before .before .before .before .before .before .before .before .before .before .answer-line .result) tt (fits 1 (a .count .now)) (put .0) ∙ sym (ap (returned (gives tt)) room),
+      sym none ∙ put .0 ∙ sym (ap roomNumber room),
       (
         put-done _ _ _ _ none (put .1 ∙ ap (λ (n : ℕ). after (c .before .before .before .before .before .before .before .before .put .result) (n ∷ []) (a .count .now)) (text .0)),
         text-copied _ (answerText (a .line .now)) (replicate answerRoom 0) _ (text .0) (text .1 .0) (text .1 .1 .1 .0) _ _ (c .before .before .copy .ensures .1),

@@ -1,10 +1,7 @@
 -- `gfroots_affine_solve` meets its contract. Assumes nothing.
 use mathlib.Core.Path.{sym, ap, _∙_}
-use mathlib.Core.Bool.{true, false}
 use Rattle.affine.specs.Answers.{ofSpace}
-use Rattle.affine.specs.Calls.{Space, Answer}
-use Rattle.firmware.specs.Lent.{spaceFits}
-use Rattle.firmware.proofs.Room.{same-room}
+use Rattle.affine.specs.Calls.{Answer}
 use Rattle.firmware.proofs.Refusing.{affine-refuses}
 use Rattle.firmware.proofs.Answers.{space-down, space-found}
 use borrow.Author.Needs.{needs}
@@ -43,8 +40,7 @@ same-length-2 c = search needs
 
 returns-2 : tie.Need-returns-2
 returns-2 c =
-    let a = c .before .before .before .before .before .before .before .before .before .before .before .before .before .before .before .args in
-    space-found (c .before .before .before .before .before .before .before .before .before .before .before .solve .result) _ _ _ _ _ _ _ _ (c .before .before .before .before .before .before .before .enum-told .given .1) (c .before .before .before .before .before .before .before .before .before .before .before .solve .ensures) (let h = c .before .before .before .before .put-space .ensures in (same-room {A = Unit {0}} {B = Space} tt (record { found = false; dimension = 0 }) (spaceFits (a .space .now) (a .directions .now)) (h .0), h .1))
+    space-found (c .before .before .before .before .before .before .before .before .before .before .before .solve .result) _ _ _ _ _ _ _ _ (c .before .before .before .before .before .before .before .enum-told .given .1) (c .before .before .before .before .before .before .before .before .before .before .before .solve .ensures) (c .before .before .before .before .put-space .ensures)
 
 same-length-3 : tie.Need-same-length-3
 same-length-3 c = search needs
@@ -54,8 +50,7 @@ same-length-4 c = search needs
 
 returns-3 : tie.Need-returns-3
 returns-3 c =
-    let a = c .before .before .before .before .before .before .before .before .before .before .before .before .before .before .before .before .args in
-    space-found (c .before .before .before .before .before .before .before .before .before .before .before .before .solve .result) _ _ _ _ _ _ _ _ (c .before .before .before .before .before .before .before .before .said2 .given .1) (c .before .before .before .before .before .before .before .before .before .before .before .before .solve .ensures) (let h = c .before .before .before .before .put-space2 .ensures in (same-room {A = Unit {0}} {B = Space} tt (record { found = true; dimension = c .before .before .before .before .before .before .before .before .said2 .given .0 .0 }) (spaceFits (a .space .now) (a .directions .now)) (h .0), h .1))
+    space-found (c .before .before .before .before .before .before .before .before .before .before .before .before .solve .result) _ _ _ _ _ _ _ _ (c .before .before .before .before .before .before .before .before .said2 .given .1) (c .before .before .before .before .before .before .before .before .before .before .before .before .solve .ensures) (c .before .before .before .before .put-space2 .ensures)
 
 pub gfroots-affine-solve-spec : {M : Type 1} → statement M
 gfroots-affine-solve-spec =

@@ -6,12 +6,12 @@ use native.Mathlib.Omega.{arith}
 use Prim.Native.Nat.{ℕ}
 use mathlib.Core.Bool.{Bool}
 use lib.ListN.{length}
-use Rattle.field.specs.Refusal.{Outcome, gives}
+use Rattle.field.specs.Refusal.{Outcome}
 use Rattle.affine.specs.Answers.{ofCount}
 use Rattle.affine.specs.Calls.{solveAnswer, listingOutcome}
 use Rattle.affine.specs.Equation.{allRoots}
 use Rattle.binary.specs.Factor.{degreeOf}
-use Rattle.firmware.specs.Lent.{returned, valueOf}
+use Rattle.firmware.specs.Lent.{returned, valueOf, roomNumber}
 use Rattle.firmware.proofs.Room.{fits-long, fits-short, kept, one-down, one-same}
 use Rattle.firmware.proofs.Refusing.{affine-refuses, listing-refuses}
 use Rattle.firmware.proofs.Listing.{without-not-0, without-same, listed-down, listed}
@@ -69,7 +69,7 @@ returns-3 c =
     let e = sym (ap ofCount (c .before .before .before .before .before .answer2 .given .1)) ∙ l .0 in
     let put = c .before .before .put .ensures in
     let one = one-same _ (a .count .now) _ _ _ e put in
-    let zero = put .0 ∙ ap (returned (gives (c .before .before .before .before .before .answer2 .given .0 .0))) (fits-long 1 (a .count .now) (pos-of-ne-zero (c .before .before .before .before .before .before .before .before .before .before .before .if1 .left))) in
+    let zero = put .0 ∙ ap roomNumber (fits-long 1 (a .count .now) (pos-of-ne-zero (c .before .before .before .before .before .before .before .before .before .before .before .if1 .left))) in
     (one .0, (one .1, l .1 ∙ listed (a .p) (a .coefficients .now) (a .list .now) _ _ e zero))
 
 pub gfroots-list-roots-spec : {M : Type 1} → statement M

@@ -13,7 +13,7 @@ root-at-place-requires c κs = search needs
 put-element-requires : tie.Need-put-element-requires
 put-element-requires c κs =
     let a = c .before .before .before .before .args in
-    subst Refuses (sym (c .before .root-at-place .ensures)) (place-refuses (a .p) (a .coefficients .now) (a .n))
+    subst Refuses (sym (c .before .root-at-place .ensures)) (place-refuses (a .p) (a .coefficients .now) _)
 
 same-length : tie.Need-same-length
 same-length c = search needs

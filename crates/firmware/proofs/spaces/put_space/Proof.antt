@@ -3,8 +3,7 @@ use mathlib.Core.Path.{_≡_, refl, sym, ap, _∙_}
 use native.Mathlib.Omega.{arith}
 use lib.ListN.{length}
 use Rattle.linear.specs.Limits.{places}
-use Rattle.field.specs.Refusal.{gives}
-use Rattle.firmware.specs.Lent.{fits, returned}
+use Rattle.firmware.specs.Lent.{fits, roomNumber}
 use Rattle.firmware.proofs.Room.{fits-long, fits-short, no-first, no-second, by-second}
 use borrow.Author.Needs.{needs}
 use Rattle.firmware.proofs.spaces.put_space.Statement.{statement}
@@ -13,12 +12,12 @@ use Rattle.firmware.proofs.spaces.put_space.Tie as tie
 returns : tie.Need-returns
 returns c =
     let a = c .before .before .before .args in
-    (sym (ap (returned (gives tt)) (no-first _ _ (fits-short 3 (a .space .now) (c .if1 .taken)))), (refl, refl))
+    (sym (ap roomNumber (no-first _ _ (fits-short 3 (a .space .now) (c .if1 .taken)))), (refl, refl))
 
 returns-2 : tie.Need-returns-2
 returns-2 c =
     let a = c .before .before .before .before .args in
-    (sym (ap (returned (gives tt)) (no-second (fits 3 (a .space .now)) _ (fits-short places (a .directions .now) (c .if2 .taken)))), (refl, refl))
+    (sym (ap roomNumber (no-second (fits 3 (a .space .now)) _ (fits-short places (a .directions .now) (c .if2 .taken)))), (refl, refl))
 
 slice-aggregate-put-all : tie.Need-slice-aggregate-put-all
 slice-aggregate-put-all c = search needs
@@ -46,7 +45,7 @@ returns-3 c =
     let a = c .before .before .before .before .before .before .before .before .before .before .before .before .before .before .args in
     let first = by-second _ (fits places (a .directions .now)) (fits-long 3 (a .space .now) (c .before .before .before .before .before .before .before .before .before .before .before .if1 .left)) in
     let second = fits-long places (a .directions .now) (c .before .before .before .before .before .before .before .before .before .before .if2 .left) in
-    (sym (ap (returned (gives tt)) (first ∙ second)), (c .before .before .before .before .before .before .before .put-all .ensures, c .before .before .put-all2 .ensures))
+    (sym (ap roomNumber (first ∙ second)), (c .before .before .before .before .before .before .before .put-all .ensures, c .before .before .put-all2 .ensures))
 
 pub put-space-spec : {M : Type 1} → statement M
 put-space-spec =

@@ -3,8 +3,8 @@ use Prim.Native.Nat.{_-_}
 use native.Mathlib.Omega.{arith}
 use borrow.Author.Needs.{needs}
 use Rattle.firmware.proofs.Copying.{Copied, copied-start, copied-turn, copied-end}
-use Rattle.firmware.proofs.lent.put_all.Statement.{statement}
-use Rattle.firmware.proofs.lent.put_all.Tie as tie
+use Rattle.firmware.proofs.inner.lent.put_all.Statement.{statement}
+use Rattle.firmware.proofs.inner.lent.put_all.Tie as tie
 
 abbrev Inv-loop : tie.InvT-loop
 Inv-loop values list₀ i₀ i-end list i = Copied values list₀ list i

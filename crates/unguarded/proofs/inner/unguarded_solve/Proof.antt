@@ -8,8 +8,8 @@ use Rattle.roots.specs.Limits.{mostRoots}
 use Rattle.roots.specs.Calls.{Answer}
 use Rattle.unguarded.specs.Count.{countOf}
 use borrow.Author.Needs.{needs}
-use Rattle.unguarded.proofs.unguarded_solve.Statement.{statement}
-use Rattle.unguarded.proofs.unguarded_solve.Tie as tie
+use Rattle.unguarded.proofs.inner.unguarded_solve.Statement.{statement}
+use Rattle.unguarded.proofs.inner.unguarded_solve.Tie as tie
 
 -- values that fill a list
 all : (values list : List ℕ) → length values ≡ length list → values ++ drop (length values) list ≡ values

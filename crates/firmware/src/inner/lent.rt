@@ -1,18 +1,17 @@
 // Values put into the lists that a caller lends.
 ghost use mathlib.Core.Path.{_≡_};
-ghost use mathlib.Core.List.{_++_};
+ghost use mathlib.Core.List.{[], _∷_, _++_};
 ghost use Prim.Native.Nat.{_≤_};
 ghost use lib.ListN.{length, drop};
-ghost use Rattle.field.specs.Refusal.{gives};
 ghost use Rattle.field.specs.Answers.{ofElement};
-ghost use Rattle.firmware.specs.Lent.{fits, returned, after, valueOf, Refuses};
+ghost use Rattle.firmware.specs.Lent.{fits, returned, after, valueOf, Refuses, roomNumber};
 use field::ElementAnswer;
 use field::refused;
 
 // A value in the first place of a list, where it has one.
 pub fn put(value: u32, list: &mut [u32]) -> u32
-    ensures { λ r. ⌜ r ≡ returned (gives value) (fits 1 (now (list .entry))) ⌝ }
-    ensures { λ r. ⌜ now (list .exit) ≡ after r (valueOf (gives value)) (now (list .entry)) ⌝ }
+    ensures { λ r. ⌜ r ≡ roomNumber (fits 1 (now (list .entry))) ⌝ }
+    ensures { λ r. ⌜ now (list .exit) ≡ after r (value ∷ []) (now (list .entry)) ⌝ }
 {
     if list.len() == 0 {
         return refused::NO_PLACE;

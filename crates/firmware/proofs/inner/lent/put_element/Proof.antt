@@ -3,8 +3,8 @@ use mathlib.Core.Path.{sym, ap, _∙_}
 use Rattle.field.specs.Answers.{ofElement}
 use Rattle.firmware.proofs.Room.{one-down, one-same}
 use borrow.Author.Needs.{needs}
-use Rattle.firmware.proofs.lent.put_element.Statement.{statement}
-use Rattle.firmware.proofs.lent.put_element.Tie as tie
+use Rattle.firmware.proofs.inner.lent.put_element.Statement.{statement}
+use Rattle.firmware.proofs.inner.lent.put_element.Tie as tie
 
 enum-known-answer : tie.Need-enum-known-answer
 enum-known-answer c = search needs
