@@ -69,10 +69,8 @@ fn lines_a_second(ns: f64) -> String {
     format!("{} lines a second", number((1e9 / ns / 1000.0).round() * 1000.0))
 }
 
-/// Beside the smallest of its runs, which the table has of everything, their median.
 fn program_note(r: &Ratios) -> Option<String> {
-    let middle = r.times.middle((r.row, r.m, Column::Whole))?;
-    Some(format!("{}; median {}; program/call {:.2}", lines_a_second(r.whole()?), number(middle), r.program_over_call()?))
+    Some(format!("{}; program/call {:.2}", lines_a_second(r.whole()?), r.program_over_call()?))
 }
 
 /// A time that is missing although the yardstick has it was not taken.

@@ -103,14 +103,8 @@ impl Times {
         self.roots.get(&key).copied()
     }
 
-    /// The smallest of the rounds: whatever else the machine does makes a round slower and never faster, and it does not hit the
-    /// library and the yardsticks in the same round.
-    pub fn get(&self, key: Key) -> Option<f64> {
-        self.rounds.get(&key)?.iter().copied().reduce(f64::min)
-    }
-
     /// The median of the rounds.
-    pub fn middle(&self, key: Key) -> Option<f64> {
+    pub fn get(&self, key: Key) -> Option<f64> {
         self.rounds.get(&key).map(|rounds| median(&mut rounds.clone()))
     }
 

@@ -15,7 +15,7 @@ use Rattle.field.proofs.Refusal.{refusal-kept, refusal-append}
 use Rattle.affine.specs.Equation.{isRoot, allRoots, baseOf, directionsOf}
 use Rattle.affine.specs.Calls.{equationTests, Answer, solution, refusedAnswer, solveAnswer, listingTests, listingOutcome, listingAfter}
 use Rattle.firmware.specs.Lent.{returned, after, Refuses}
-use Rattle.firmware.proofs.Room.{kept, put-done}
+use Rattle.firmware.proofs.Room.{kept}
 
 pub without-not-0 : {A : Type 0} (o : Outcome A) → Refuses o → returned o false ≢ 0
 without-not-0 (turnedDown n) R = R

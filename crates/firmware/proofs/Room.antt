@@ -1,11 +1,10 @@
 -- Lent lists: which have room (`fits-long`, `fits-short`), what a call that is turned down leaves (`kept`), and how the answer of a call with
 -- one value becomes its number and its list (`one-down`, `one-same`). Assumes nothing.
-use mathlib.Core.Path.{_≡_, refl, sym, ap, _∙_, subst}
+use mathlib.Core.Path.{_≡_, refl, sym, ap, subst}
 use mathlib.Core.Logic.{_≢_}
 use mathlib.Core.Bool.{Bool, true, false, _&&_, false≢true}
-use mathlib.Core.List.{List, [], _∷_, _++_}
+use mathlib.Core.List.{List, [], _∷_}
 use Prim.Native.Nat.{ℕ, zero, suc, _≤_, _<_}
-use native.Mathlib.Omega.{arith}
 use borrow.Author.Tests.{le-leb, lt-leb}
 use lib.ListN.{length, drop, set}
 use Rattle.field.specs.Refusal.{Outcome, turnedDown}

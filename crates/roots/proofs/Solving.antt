@@ -1,6 +1,6 @@
 -- From the roots found to the answer: the equation is ready (`solve-ready`), and what was found is the call's answer (`solve-answer`).
 -- Assumes nothing.
-use mathlib.Core.Path.{_≡_, sym, ap, ap₂, _∙_}
+use mathlib.Core.Path.{_≡_, ap, ap₂, _∙_}
 use mathlib.Core.List.{List, map}
 use Prim.Native.Nat.{ℕ}
 use Rattle.algebra.specs.Lists.{padded}

@@ -3,8 +3,6 @@ use mathlib.Core.Path.{sym, ap, _∙_}
 use mathlib.Core.Logic.{_≢_}
 use native.Mathlib.Nat.{pos-of-ne-zero}
 use native.Mathlib.Omega.{arith}
-use Prim.Native.Nat.{ℕ}
-use mathlib.Core.Bool.{Bool}
 use lib.ListN.{length}
 use Rattle.field.specs.Refusal.{Outcome}
 use Rattle.affine.specs.Answers.{ofCount}

@@ -1,5 +1,5 @@
 -- `put_element` meets its contract. Assumes nothing.
-use mathlib.Core.Path.{sym, ap, _∙_}
+use mathlib.Core.Path.{sym, ap}
 use Rattle.field.specs.Answers.{ofElement}
 use Rattle.firmware.proofs.Room.{one-down, one-same}
 use borrow.Author.Needs.{needs}
