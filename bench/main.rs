@@ -102,8 +102,7 @@ fn spread(times: &Times, rounds: usize) -> String {
     let mut spreads = times.spreads();
     let (middle, worst) = (median(&mut spreads), spreads.iter().copied().fold(1.0, f64::max));
     format!(
-        "Each time is the median of {rounds} rounds (kernel: one round), and that of a round the median of {RUNS} runs (yardsticks: 21; \
-         program: one).\nThe slowest round took {middle:.2} times as long as the fastest, in the median of all times, and at worst \
-         {worst:.2} times."
+        "Each time is the median of {RUNS} runs (yardsticks: 21; program: one), in the best of {rounds} rounds (kernel: one round).\n\
+         The slowest round took {middle:.2} times as long as the fastest, in the median of all times, and at worst {worst:.2} times."
     )
 }

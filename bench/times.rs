@@ -103,9 +103,10 @@ impl Times {
         self.roots.get(&key).copied()
     }
 
-    /// The median of the rounds.
+    /// The smallest of the rounds' medians: whatever else the machine does makes a round slower and never faster, and it does not hit the
+    /// library and the yardsticks in the same round.
     pub fn get(&self, key: Key) -> Option<f64> {
-        self.rounds.get(&key).map(|rounds| median(&mut rounds.clone()))
+        self.rounds.get(&key)?.iter().copied().reduce(f64::min)
     }
 
     /// The smaller of two columns.
