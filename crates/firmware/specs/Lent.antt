@@ -15,12 +15,12 @@ use Rattle.frames.specs.Limits.{answerRoom}
 abbrev pub fits : ℕ → List ℕ → Bool
 fits n list = leb n (length list)
 
--- "a slice with no room is turned down by 7"
+-- 7 where a lent list has no room for its values, as a listing is turned down by 7 where its list is too short (01)
 abbrev pub roomNumber : Bool → ℕ
 roomNumber true = 0
 roomNumber false = 7
 
--- "each returns the refusal number or 0": room is looked at after everything else
+-- the number that the call is turned down by, the first that applies, 7 after all others; else 0
 abbrev pub returned : {A : Type 0} → Outcome A → Bool → ℕ
 returned (turnedDown n) room = n
 returned (gives v) room = roomNumber room
