@@ -1,5 +1,6 @@
 //! What the calls are given: drawn with a fixed seed, so that every run of the benchmark measures the same inputs.
 
+use crate::gfroots::Roots;
 use crate::times::Kind;
 use std::ops::Range;
 
@@ -11,20 +12,12 @@ pub const LINES: usize = 512;
 /// Coefficients, constant first. A lower degree has zeros above, as the prototype's equations have.
 pub type Equation = [u32; 5];
 
-/// The answer to an equation; unused places are 0.
-#[derive(Clone, Copy, Debug, PartialEq)]
-pub struct Solved {
-    pub count: u32,
-    pub roots: [u32; 4],
-    pub multiplicities: [u32; 4],
-}
-
 /// Equations of one degree and kind; of a split also what its answer must be.
 pub struct Equations {
     pub degree: u32,
     pub kind: Kind,
     pub all: Vec<Equation>,
-    pub expected: Vec<Solved>,
+    pub expected: Vec<Roots>,
 }
 
 pub struct Line {
@@ -165,8 +158,8 @@ fn built(p: u32, m: u32, roots: &[u32], leading: u32) -> Equation {
     equation
 }
 
-fn once_each(roots: &[u32]) -> Solved {
-    let mut solved = Solved { count: roots.len() as u32, roots: [0; 4], multiplicities: [0; 4] };
+fn once_each(roots: &[u32]) -> Roots {
+    let mut solved = Roots { count: roots.len() as u32, roots: [0; 4], multiplicities: [0; 4] };
     solved.roots[..roots.len()].copy_from_slice(roots);
     solved.multiplicities[..roots.len()].fill(1);
     solved

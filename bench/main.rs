@@ -3,7 +3,9 @@
 //! yardsticks, or nothing.
 
 mod checks;
-mod firmware;
+/// The safe module over libfirmware.a that examples/ has for everyone.
+#[path = "../examples/rust/gfroots.rs"]
+mod gfroots;
 mod inputs;
 mod measure;
 mod program;
@@ -59,8 +61,8 @@ fn prepared(program: &Program) -> Result<Vec<Inputs>, String> {
     eprintln!("bench: checking answers");
     let mut fields = Vec::new();
     for m in DEGREES {
-        let p = firmware::house_polynomial(m).map_err(|number| format!("no house polynomial of degree {m}: {number}"))?;
-        let inputs = Inputs::draw(m, p, |p| firmware::accept(p).is_ok());
+        let p = gfroots::house_polynomial(m).map_err(|number| format!("no house polynomial of degree {m}: {number}"))?;
+        let inputs = Inputs::draw(m, p, |p| gfroots::accept(p).is_ok());
         checks::check(&inputs)?;
         program.prepare(&inputs)?;
         fields.push(inputs);

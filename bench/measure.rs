@@ -3,7 +3,7 @@
 use crate::inputs::{self, Equations, Inputs, Line};
 use crate::program::Program;
 use crate::times::{Column, Row, Times, median};
-use crate::{firmware, unguarded};
+use crate::{gfroots, unguarded};
 use std::cell::Cell;
 use std::hint::black_box;
 use std::time::Instant;
@@ -56,16 +56,16 @@ pub fn round(times: &mut Times, inputs: &Inputs, program: &Program) -> Result<()
 fn accept(times: &mut Times, inputs: &Inputs) {
     let m = inputs.m;
     for (row, polynomials) in [(Row::Accept, &inputs.polynomials[..]), (Row::AcceptHouse, &[inputs.p; inputs::POLYNOMIALS])] {
-        times.add((row, m, Column::Whole), per_call(polynomials, |p| firmware::accept(*p)));
+        times.add((row, m, Column::Whole), per_call(polynomials, |p| gfroots::accept(*p)));
         times.add((row, m, Column::Inner), per_call(polynomials, |p| unguarded::factor_free(*p, black_box(m))));
     }
 }
 
 fn arithmetic(times: &mut Times, inputs: &Inputs) {
     let (p, m, pairs) = (black_box(inputs.p), black_box(inputs.m), &inputs.pairs);
-    times.add((Row::Product, m, Column::Whole), per_call(pairs, |&(a, b)| firmware::product(p, a, b)));
+    times.add((Row::Product, m, Column::Whole), per_call(pairs, |&(a, b)| gfroots::product(p, a, b)));
     times.add((Row::Product, m, Column::Inner), per_call(pairs, |&(a, b)| unguarded::product(p, m, a, b)));
-    times.add((Row::Quotient, m, Column::Whole), per_call(pairs, |&(a, b)| firmware::quotient(p, a, b)));
+    times.add((Row::Quotient, m, Column::Whole), per_call(pairs, |&(a, b)| gfroots::quotient(p, a, b)));
     times.add((Row::Quotient, m, Column::Inner), per_call(pairs, |&(a, b)| unguarded::quotient(p, m, a, b)));
     // Made odd, so that the chain never arrives at 0.
     let last = Cell::new(1);
@@ -76,7 +76,7 @@ fn arithmetic(times: &mut Times, inputs: &Inputs) {
 
 fn solve(times: &mut Times, inputs: &Inputs, set: &Equations) {
     let (p, m, row) = (black_box(inputs.p), black_box(inputs.m), Row::Solve(set.degree, set.kind));
-    times.add((row, m, Column::Whole), per_call(&set.all, |equation| firmware::solve(p, equation)));
+    times.add((row, m, Column::Whole), per_call(&set.all, |equation| gfroots::solve(p, equation)));
     times.add((row, m, Column::Inner), per_call(&set.all, |equation| unguarded::solve(p, equation)));
     if matches!(set.degree, 2 | 4) {
         times.add((row, m, Column::Every), every_element(p, m, set));
@@ -96,20 +96,19 @@ fn every_element(p: u32, m: u32, set: &Equations) -> f64 {
 fn affine(times: &mut Times, inputs: &Inputs) {
     let (p, m) = (black_box(inputs.p), inputs.m);
     for (row, equations) in [(Row::AffineShort, &inputs.affine_short), (Row::AffineFull, &inputs.affine_full)] {
-        times.add((row, m, Column::Whole), per_call(equations, |equation| firmware::affine_solve(p, equation)));
+        times.add((row, m, Column::Whole), per_call(equations, |equation| gfroots::affine_solve(p, equation)));
     }
 }
 
 /// 0 = 0, of which every element is a root.
 fn list(times: &mut Times, inputs: &Inputs) {
-    let mut room = vec![0; firmware::LIST_ROOM];
-    let all = per_call(&[[0]], |equation| (firmware::list_roots(black_box(inputs.p), equation, &mut room), black_box(&room).len()));
+    let mut room = vec![0; gfroots::LIST_ROOM];
+    let all = per_call(&[[0]], |equation| (gfroots::list_roots(black_box(inputs.p), equation, &mut room), black_box(&room).len()));
     times.add((Row::List, inputs.m, Column::Whole), all);
 }
 
 fn lines(times: &mut Times, inputs: &Inputs, program: &Program) -> Result<(), String> {
-    let mut room = [0; firmware::ANSWER_ROOM];
-    let call = |line: &Line| (firmware::answer_line(&line.text, &mut room), black_box(&room).len());
+    let call = |line: &Line| gfroots::answer_line(&line.text);
     times.add((Row::Line, inputs.m, Column::Whole), per_call(&inputs.lines, call));
     times.add((Row::Program, inputs.m, Column::Whole), program.time(inputs.m)?);
     Ok(())

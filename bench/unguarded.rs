@@ -2,7 +2,7 @@
 //! benchmark only. The caller owes what the tests would have tested: `p` has degree `m`, 2 to 16, and no factor (but for `factor_free`,
 //! which finds that out), elements and coefficients are below 2^m, one coefficient at least is not 0, and there are one to five of them.
 
-use crate::inputs::Solved;
+use crate::gfroots::Roots;
 
 unsafe extern "C" {
     fn unguarded_factor_free(p: u32, m: u32) -> bool;
@@ -32,8 +32,8 @@ pub fn quotient(p: u32, m: u32, a: u32, b: u32) -> u32 {
     unsafe { unguarded_quotient(p, m, a, b) }
 }
 
-pub fn solve(p: u32, equation: &[u32]) -> Solved {
+pub fn solve(p: u32, equation: &[u32]) -> Roots {
     let (mut roots, mut multiplicities) = ([0; 4], [0; 4]);
     let count = unsafe { unguarded_solve(p, equation.as_ptr(), equation.len(), roots.as_mut_ptr(), 4, multiplicities.as_mut_ptr(), 4) };
-    Solved { count, roots, multiplicities }
+    Roots { count, roots, multiplicities }
 }

@@ -10,7 +10,7 @@ module _ (n : ℕ) (text out₀ out : List ℕ) (k : n ≡ length text) (e : out
   room : 0 + length text ≤ length out₀
   room = let l = length-sets out₀ 0 text in let q = ap length e in omega arith
 
-  pub written : take n out ≡ text
+  written : take n out ≡ text
   written =
       ap₂ (λ (i : ℕ) (l : List ℕ). take i l) k (e ∙ sets-eq text out₀ 0 room)
       ∙ take-at text (drop (0 + length text) out₀) (length text) refl
