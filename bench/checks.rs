@@ -46,7 +46,7 @@ fn arithmetic(inputs: &Inputs) -> Result<(), String> {
 fn equations(inputs: &Inputs, set: &Equations) -> Result<(), String> {
     let (p, m) = (inputs.p, inputs.m);
     for (place, equation) in set.all.iter().enumerate() {
-        let solved = unguarded::solve(p, m, equation);
+        let solved = unguarded::solve(p, equation);
         require(gfroots::solve(p, equation) == Ok(solved), || format!("solve({p}, {equation:?}), with and without the test"))?;
         let split = set.expected.get(place).is_none_or(|expected| *expected == solved);
         require(split, || format!("solve({p}, {equation:?}) does not give its roots back"))?;

@@ -94,7 +94,7 @@ fn measured(fields: &[Inputs], program: &Program, yardsticks: &Yardsticks) -> Re
 /// The average number of roots, to set beside those that the yardsticks print.
 fn count_roots(times: &mut Times, fields: &[Inputs]) {
     for (inputs, set) in fields.iter().flat_map(|inputs| inputs.equations.iter().map(move |set| (inputs, set))) {
-        let total: u32 = set.all.iter().map(|equation| unguarded::solve(inputs.p, inputs.m, equation).count).sum();
+        let total: u32 = set.all.iter().map(|equation| unguarded::solve(inputs.p, equation).count).sum();
         times.set_roots((Row::Solve(set.degree, set.kind), inputs.m, Column::Whole), f64::from(total) / set.all.len() as f64);
     }
 }

@@ -77,7 +77,7 @@ fn arithmetic(times: &mut Times, inputs: &Inputs) {
 fn solve(times: &mut Times, inputs: &Inputs, set: &Equations) {
     let (p, m, row) = (black_box(inputs.p), black_box(inputs.m), Row::Solve(set.degree, set.kind));
     times.add((row, m, Column::Whole), per_call(&set.all, |equation| gfroots::solve(p, equation)));
-    times.add((row, m, Column::Inner), per_call(&set.all, |equation| unguarded::solve(p, m, equation)));
+    times.add((row, m, Column::Inner), per_call(&set.all, |equation| unguarded::solve(p, equation)));
     if matches!(set.degree, 2 | 4) {
         times.add((row, m, Column::Every), every_element(p, m, set));
     }

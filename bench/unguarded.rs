@@ -10,7 +10,6 @@ unsafe extern "C" {
     fn unguarded_quotient(p: u32, m: u32, a: u32, b: u32) -> u32;
     fn unguarded_solve(
         p: u32,
-        m: u32,
         coefficients: *const u32,
         coefficients_len: usize,
         roots: *mut u32,
@@ -33,8 +32,8 @@ pub fn quotient(p: u32, m: u32, a: u32, b: u32) -> u32 {
     unsafe { unguarded_quotient(p, m, a, b) }
 }
 
-pub fn solve(p: u32, m: u32, equation: &[u32]) -> Roots {
+pub fn solve(p: u32, equation: &[u32]) -> Roots {
     let (mut roots, mut multiplicities) = ([0; 4], [0; 4]);
-    let count = unsafe { unguarded_solve(p, m, equation.as_ptr(), equation.len(), roots.as_mut_ptr(), 4, multiplicities.as_mut_ptr(), 4) };
+    let count = unsafe { unguarded_solve(p, equation.as_ptr(), equation.len(), roots.as_mut_ptr(), 4, multiplicities.as_mut_ptr(), 4) };
     Roots { count, roots, multiplicities }
 }

@@ -14,10 +14,11 @@ use Rattle.algebra.proofs.CountUp.{map_same}
 use Rattle.binary.specs.Xor.{◌⊕◌}
 use Rattle.binary.proofs.Xor.{zero_xor}
 use Rattle.binary.proofs.Additive.{Additive, additive-zero}
+use Rattle.binary.specs.Factor.{degreeOf}
 use Rattle.galois.specs.Field.{Field}
 use Rattle.galois.specs.Affine.{linearAt, affineAt}
 use Rattle.galois.proofs.Affine.{linearAt-xor, affineAt-xor}
-use Rattle.linear.specs.Limits.{width}
+use Rattle.linear.specs.Limits.{places, width}
 use Rattle.linear.specs.Directions.{choose}
 use Rattle.linear.specs.Solution.{placed, solutionIf, solutionBy}
 use Rattle.linear.specs.declared.inner.solution.Solution.{Solution}
@@ -25,9 +26,8 @@ use Rattle.linear.proofs.Choose.{choose-zeros}
 use Rattle.linear.proofs.Listed.{degree-lt, directions-length}
 use Rattle.linear.proofs.Canonical.{Coset, Canonical, is-canonical}
 use Rattle.linear.proofs.Places.{places-are-roots, root-count, no-roots}
-use Rattle.affine.specs.Limits.{places}
 use Rattle.affine.specs.Equation.{isRoot, isDirection, allRoots, base_of, directionsOf, rootAt, solutionOf, Ready}
-use Rattle.affine.specs.Calls.{solution, searched}
+use Rattle.affine.specs.Calls.{solution}
 use Rattle.affine.specs.Answers.{answer_of, rootCount}
 use Rattle.affine.proofs.Matrix.{root-test, direction-test}
 
@@ -56,7 +56,10 @@ unfolding solutionIf
 count-if true base ds = omega arith
 count-if false base ds = omega arith
 
-module _ (m p : ℕ) (cs : List ℕ) (r : Solution) (e : r ≡ solutionOf m p cs) where
+module _ (p : ℕ) (cs : List ℕ) (r : Solution) (e : r ≡ solutionOf p cs) where
+  abbrev m : ℕ
+  m = degreeOf p
+
   abbrev found : Bool
   found = someBelow (isRoot p cs) (2 ^ m)
 
@@ -70,15 +73,15 @@ module _ (m p : ℕ) (cs : List ℕ) (r : Solution) (e : r ≡ solutionOf m p cs
   unfolding solutionOf solutionBy base_of directionsOf
   is = e
 
-  pub answer-is : answer_of r ≡ searched m p cs
+  pub answer-is : answer_of r ≡ solution found base ds
   answer-is = ap answer_of is ∙ answer-if found base ds
 
-  pub count_fits : Ready m p cs → r.count ≤ places
+  pub count_fits : Ready (degreeOf p) p cs → r.count ≤ places
   unfolding directionsOf
   count_fits R =
       rw is (omega (arith, count-if found base ds, directions-length (isDirection p cs) m, R.largest))
 
-  module _ (R : Ready m p cs) where
+  module _ (R : Ready (degreeOf p) p cs) where
     F : Field m p
     F = R.field.field
 

@@ -16,12 +16,12 @@ use Rattle.galois.specs.Polynomial.{Coeffs}
 use Rattle.galois.proofs.Polynomial.{coeff-at}
 use Rattle.galois.specs.Affine.{linearAt, affineAt}
 use Rattle.galois.proofs.Affine.{linearAt-lt, linearAt-xor}
+use Rattle.linear.specs.Limits.{places}
 use Rattle.linear.specs.System.{Kernel}
 use Rattle.linear.specs.Solution.{solutionBy, solvesRows, inKernel}
 use Rattle.linear.specs.Matrix.{rows_of}
 use Rattle.linear.proofs.Solved.{kernel-test, solves-test, solution-same}
 use Rattle.linear.proofs.Matrix.{rowsOf-same, kernel-of-rows, solves-of-rows}
-use Rattle.affine.specs.Limits.{places}
 use Rattle.affine.specs.Columns.{IsColumns}
 use Rattle.affine.specs.Equation.{isRoot, isDirection}
 

@@ -19,7 +19,7 @@ use Rattle.galois.specs.Field.{Field}
 use Rattle.galois.specs.Power.{power, squares}
 use Rattle.galois.specs.Affine.{linearAt}
 use Rattle.galois.proofs.Power.{x-power, squares-power, mul_left, mul-lt, squares-shift, squares-lt, squares-is}
-use Rattle.affine.specs.Limits.{places}
+use Rattle.linear.specs.Limits.{places}
 use Rattle.affine.specs.Columns.{IsColumns, PlusTerm}
 
 module _ (m p : ℕ) (F : Field m p) where

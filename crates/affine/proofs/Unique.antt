@@ -1,12 +1,9 @@
 -- Any two answers that a promise permits are the same one: an answer is got back from what it stands for. Assumes nothing.
-use mathlib.Core.Path.{◌≡◌, refl, ap₂}
+use mathlib.Core.Path.{◌≡◌, refl, ap}
 use mathlib.Core.Bool.{Bool, true, false}
-use mathlib.Core.List.{List}
 use Prim.Native.Nat.{ℕ}
-use Rattle.refusal.specs.Outcome.{Outcome, turnedDown, gives}
-use Rattle.refusal.proofs.Outcome.{one-by-back}
-use Rattle.field.specs.declared.Element.{Element}
-use Rattle.field.proofs.Elements.{asElements, elements-back}
+use Rattle.field.specs.Refusal.{Outcome, turnedDown, gives}
+use Rattle.field.proofs.Unique.{one-by-back}
 use Rattle.affine.specs.Calls.{Space, Answer}
 use Rattle.affine.specs.Answers.{ofSpace, ofAffine, ofCount}
 use Rattle.affine.specs.declared.RootSpace.{RootSpace}
@@ -33,12 +30,10 @@ pub one-affine : (r s : AffineAnswer) → ofAffine r ≡ ofAffine s → r ≡ s
 one-affine = one-by-back ofAffine back same
   where
     back : Answer → AffineAnswer
-    back a = record { space = spaceBack a.says; base = record { 0 = a.base }; directions = asElements a.directions }
+    back a = record { space = spaceBack a.says; base = record { 0 = a.base }; directions = a.directions }
 
     same : (r : AffineAnswer) → back (ofAffine r) ≡ r
-    same r =
-        ap₂ (λ (x : RootSpace) (l : List Element). record { space = x; base = r.base; directions = l }) (space-same r.space)
-        (elements-back r.directions)
+    same r = ap (λ (x : RootSpace). record { space = x; base = r.base; directions = r.directions }) (space-same r.space)
 
 pub one-count : (r s : CountAnswer) → ofCount r ≡ ofCount s → r ≡ s
 one-count = one-by-back ofCount back same

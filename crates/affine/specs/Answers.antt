@@ -1,8 +1,7 @@
 -- The number and the values that each case of each answer stands for (01, "Numbers a call is turned down by"). Assumes nothing.
 use Rattle.std.specs.Prelude.{Bool, true, false, ℕ, ◌^◌}
-use Rattle.refusal.specs.Outcome.{Outcome, turnedDown, gives}
+use Rattle.field.specs.Refusal.{Outcome, turnedDown, gives}
 use Rattle.linear.specs.declared.inner.solution.Solution.{Solution}
-use Rattle.field.specs.Elements.{asNumbers}
 use Rattle.affine.specs.Calls.{Space, Answer}
 use Rattle.affine.specs.declared.RootSpace.{RootSpace}
 use Rattle.affine.specs.declared.RootSpace.TheVariants as space
@@ -16,7 +15,7 @@ ofSpace space.NoRoot = gives (record { found = false; dimension = 0 })
 ofSpace (space.Found k) = gives (record { found = true; dimension = k })
 
 abbrev pub ofAffine : AffineAnswer → Answer
-ofAffine a = record { says = ofSpace a.space; base = a.base.0; directions = asNumbers a.directions }
+ofAffine a = record { says = ofSpace a.space; base = a.base.0; directions = a.directions }
 
 abbrev pub ofCount : CountAnswer → Outcome ℕ
 ofCount (count.TurnedDown n) = turnedDown n

@@ -4,13 +4,14 @@ use Rattle.std.specs.Prelude.{Bool, List, ℕ, ◌+◌, ◌^◌, ◌≤◌, ◌<
 use Rattle.algebra.specs.Lists.{countUp, keep}
 use Rattle.algebra.specs.Search.{first}
 use Rattle.binary.specs.Xor.{◌⊕◌}
+use Rattle.binary.specs.Factor.{degreeOf}
 use Rattle.galois.specs.Polynomial.{Coeffs}
 use Rattle.galois.specs.Affine.{linearAt, affineAt}
 use Rattle.arithmetic.specs.Modulus.{FieldModulus}
+use Rattle.linear.specs.Limits.{places}
 use Rattle.linear.specs.Directions.{directionsFrom, choose}
 use Rattle.linear.specs.declared.inner.solution.Solution.{Solution}
 use Rattle.linear.specs.Solution.{solutionBy}
-use Rattle.affine.specs.Limits.{places}
 
 -- x is a root: "c + l0·x + l1·x^2 + l2·x^4 + ..." is 0
 unfoldable pub isRoot : ℕ → List ℕ → ℕ → Bool
@@ -37,8 +38,8 @@ unfoldable pub rootAt : ℕ → ℕ → List ℕ → ℕ → ℕ
 rootAt m p cs n = base_of m p cs ⊕ choose (directionsOf m p cs) n
 
 -- base and directions together, as the elimination gives them
-unfoldable pub solutionOf : ℕ → ℕ → List ℕ → Solution
-solutionOf m p cs = solutionBy m (isRoot p cs) (isDirection p cs)
+unfoldable pub solutionOf : ℕ → List ℕ → Solution
+solutionOf p cs = solutionBy (degreeOf p) (isRoot p cs) (isDirection p cs)
 
 -- what the code asks of an equation: the field, and one to m + 1 coefficients in it
 pub record Ready (m p : ℕ) (cs : List ℕ) : Type 0 where

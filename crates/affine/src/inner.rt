@@ -1,6 +1,4 @@
 // Code that asks something of its caller (each `requires` says what).
 pub mod answer;
 pub mod columns;
-pub mod elements;
 pub mod equation;
-pub mod in_field;

@@ -1,19 +1,17 @@
 // Affine equations c + l0·x + l1·x^2 + l2·x^4 + .. over GF(2^m): the public calls. Each takes the field polynomial and the coefficients, c
-// first, tests the polynomial, and goes on in that field (inner::in_field); none asks anything of its caller, and each answers by its
-// definition in specs/Calls, for every input.
+// first, and tests them; none asks anything of its caller, and each answers by its definition in specs/Calls, for every input.
 ghost use Rattle.std.specs.Prelude.{◌≡◌, length};
 ghost use Rattle.field.specs.Answers.{ofElement};
 ghost use Rattle.affine.specs.Answers.{ofAffine, ofCount};
 ghost use Rattle.affine.specs.Calls.{solveAnswer, placeOutcome, listingOutcome, listingAfter};
 
 pub mod inner;
-pub mod limits;
 
-use crate::inner::answer::turned_down;
-use crate::inner::in_field;
-use crate::limits::{Entry, PLACES};
-use field::inner::tests::{degree_of, of_polynomial};
-use field::{Element, ElementAnswer};
+use crate::inner::{answer, equation};
+use field::{Element, ElementAnswer, refused};
+use linear::inner::elimination::PLACES;
+use linear::inner::listing::{Entry, list_all};
+use linear::inner::place::place;
 
 // Turned down by its number, or without a root, or with the number k of directions.
 #[derive(Drop)]
@@ -28,7 +26,7 @@ pub enum RootSpace {
 pub struct AffineAnswer {
     pub space: RootSpace,
     pub base: Element,
-    pub directions: [Element; PLACES],
+    pub directions: [u32; PLACES],
 }
 
 // Turned down by its number, or how many roots were listed.
@@ -42,22 +40,31 @@ pub enum CountAnswer {
 pub fn solve(p: u32, coefficients: &[u32]) -> AffineAnswer
     ensures { ofAffine result ≡ solveAnswer p coefficients.now }
 {
-    let refused = of_polynomial(p);
+    let refused = equation::refusal(p, coefficients);
     if refused != 0 {
-        return turned_down(refused);
+        return AffineAnswer {
+            space: RootSpace::TurnedDown(refused),
+            base: Element(0),
+            directions: [0; PLACES],
+        };
     }
-    in_field::solve(p, degree_of(p), coefficients)
+    answer::of_solution(equation::solution(p, coefficients))
 }
 
 // The root at place n, from 0, in ascending order.
 pub fn root_at_place(p: u32, coefficients: &[u32], n: u32) -> ElementAnswer
     ensures { ofElement result ≡ placeOutcome p coefficients.now n }
 {
-    let refused = of_polynomial(p);
+    let refused = equation::refusal(p, coefficients);
     if refused != 0 {
         return ElementAnswer::TurnedDown(refused);
     }
-    in_field::root_at_place(p, degree_of(p), coefficients, n)
+    let s = equation::solution(p, coefficients);
+    if answer::root_count(s) <= n {
+        return ElementAnswer::TurnedDown(refused::NO_PLACE);
+    }
+    let directions = s.directions;
+    ElementAnswer::Found(Element(place(s.base, directions, n)))
 }
 
 // All roots, ascending, at the front of the lent list; the entries after them stay as they were.
@@ -65,9 +72,19 @@ pub fn list_roots(p: u32, coefficients: &[u32], list: &mut [Entry]) -> CountAnsw
     ensures result_value { ofCount result ≡ listingOutcome p coefficients.now (length list.old) }
     ensures list_after { list.new ≡ listingAfter p coefficients.now list.old }
 {
-    let refused = of_polynomial(p);
+    let refused = equation::refusal(p, coefficients);
     if refused != 0 {
         return CountAnswer::TurnedDown(refused);
     }
-    in_field::list_roots(p, degree_of(p), coefficients, list)
+    let s = equation::solution(p, coefficients);
+    let roots = answer::root_count(s);
+    if list.len() < (roots as usize) {
+        return CountAnswer::TurnedDown(refused::NO_PLACE);
+    }
+    if roots == 0 {
+        return CountAnswer::Count(0);
+    }
+    let directions = s.directions;
+    list_all(list, s.base, s.count, directions);
+    CountAnswer::Count(roots)
 }

@@ -7,7 +7,8 @@ use crate::listings::listings_agree;
 use crate::search;
 use crate::search::PLACES;
 use affine::RootSpace;
-use field::{Element, ElementAnswer};
+use field::ElementAnswer;
+use trial::inner::plain::same;
 
 // No element.
 const OUTSIDE: u32 = 65536;
@@ -29,15 +30,6 @@ fn space_agrees(space: RootSpace, number: u32, count: usize) -> bool {
     }
 }
 
-fn directions_agree(said: [Element; PLACES], directions: &[u32; PLACES]) -> bool {
-    for i in 0..PLACES {
-        if said[i].0 != directions[i] {
-            return false;
-        }
-    }
-    true
-}
-
 fn solve_agrees(
     p: u32,
     coefficients: &[u32],
@@ -55,7 +47,7 @@ fn solve_agrees(
     if base.0 != root_or(roots, 0, 0) {
         return false;
     }
-    directions_agree(said, directions)
+    same(&said, directions)
 }
 
 fn place_agrees(p: u32, coefficients: &[u32], number: u32, roots: &[u16], n: u32) -> bool {

@@ -1,3 +1,5 @@
+pub mod Quotient
+pub mod Power
 pub mod EvenDigits
 pub mod Root
 pub mod Number

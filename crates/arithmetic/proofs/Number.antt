@@ -1,20 +1,30 @@
--- What the walk through the powers of x has found (`Tried`): the number of an element (`tried-found`), or that it has none (`tried-all`).
--- Assumes nothing.
+-- The logarithm number: what the walk through the powers of x has found (`Tried`), and what the number means: `number-back`,
+-- `number-least`, `number_lt`, `number-zero`. Assumes nothing.
 use mathlib.Core.Path.{◌≡◌, refl, sym, ap, ◌∙◌}
-use mathlib.Core.Bool.{false}
-use Prim.Native.Nat.{ℕ, ◌+◌, ◌-◌, ◌^◌, ◌≤◌, ◌<◌}
+use mathlib.Core.Bool.{Bool, true, false}
+use mathlib.Core.Logic.{◌≢◌, ◌⊎◌, inl, inr, ◌↔◌}
+use Prim.Native.Nat.{ℕ, suc, ◌+◌, ◌-◌, ◌%◌, ◌^◌, ◌≤◌, ◌<◌}
 use native.Mathlib.Numerals.{add-one}
 use native.Mathlib.Omega.{arith}
 use lib.Dec.{eqb}
-use lib.Pow.{pow_mono}
+use lib.Pow.{pow_mono, pow_pos}
 use borrow.Author.Count.{below_more}
-use borrow.Author.Tests.{eq-eqb, ne_eqb}
-use Rattle.algebra.proofs.Search.{first-is, first-none}
+use borrow.Author.Tests.{eq-eqb, ne_eqb, eqb-true, eqb-false, lt-ltb, le-ltb}
 use Rattle.binary.specs.Product.{product, Modulus, timesX}
-use Rattle.binary.proofs.Modulus.{timesX-lt, product-two}
+use Rattle.galois.specs.Field.{Field}
 use Rattle.galois.specs.Power.{power}
-use Rattle.galois.specs.Number.{numbered, number_of}
-use Rattle.galois.proofs.Number.{numbered-some, numbered-none}
+use Rattle.galois.proofs.Cyclic.{power-reduced, exponent_lt}
+use Rattle.binary.proofs.Modulus.{timesX-lt, product-two}
+use Rattle.algebra.proofs.Search.{first-is, first-none, found}
+use Rattle.arithmetic.specs.Number.{numbered, number_of, elementOf}
+
+numbered-some : (n e : ℕ) → e < n → numbered n e ≡ e + 1
+unfolding numbered
+numbered-some n e l = rw (numbered, lt-ltb e n l)
+
+numbered-none : (n e : ℕ) → n ≤ e → numbered n e ≡ 0
+unfolding numbered
+numbered-none n e l = rw (numbered, le-ltb e n l)
 
 -- e exponents tried, and x is the power to e
 pub record Tried (m p a x e : ℕ) : Type 0 where
@@ -53,3 +63,75 @@ module _ (m p a : ℕ) (M : Modulus m p) where
     tried-all l =
         sym (ap (numbered (2 ^ m - 1)) (first-none (λ e. eqb (power p 2 e) a) (2 ^ m - 1) (λ j k. R.none j (omega arith)))
         ∙ numbered-none (2 ^ m - 1) (2 ^ m - 1) (omega arith))
+
+-- the number is e + 1 for the first exponent e that gives a, or 0 where none below 2 ^ m - 1 does
+abbrev pub Numbered : ℕ → ℕ → ℕ → Type 0
+Numbered m p a =
+    ((e : ℕ) × (e < 2 ^ m - 1) × (number_of m p a ≡ suc e) × (power p 2 e ≡ a) × ((j : ℕ) → j < e → power p 2 j ≢ a))
+    ⊎ ((number_of m p a ≡ 0) × ((j : ℕ) → j < 2 ^ m - 1 → power p 2 j ≢ a))
+
+pub number-cases : (m p a : ℕ) → Numbered m p a
+unfolding number_of
+number-cases m p a = go (found f (2 ^ m - 1))
+  where
+    f : ℕ → Bool
+    f e = eqb (power p 2 e) a
+
+    go : ((k : ℕ) × (k < 2 ^ m - 1) × (f k ≡ true) × ((j : ℕ) → j < k → f j ≡ false)) ⊎ ((j : ℕ) → j < 2 ^ m - 1 → f j ≡ false)
+        → Numbered m p a
+    go (inl r) =
+        inl (
+          r.0,
+          r.1,
+          ap (numbered (2 ^ m - 1)) (first-is f (2 ^ m - 1) r.0 r.1 r.2 r.3) ∙ numbered-some (2 ^ m - 1) r.0 r.1 ∙ add-one r.0,
+          eqb-true (power p 2 r.0) a r.2,
+          λ j l. eqb-false (power p 2 j) a (r.3 j l),
+        )
+    go (inr h) =
+        inr (
+          ap (numbered (2 ^ m - 1)) (first-none f (2 ^ m - 1) h) ∙ numbered-none (2 ^ m - 1) (2 ^ m - 1) (omega arith),
+          λ j l. eqb-false (power p 2 j) a (h j l),
+        )
+
+-- a number that is not 0 goes back to its element
+pub number-back : (m p a : ℕ) → number_of m p a ≢ 0 → elementOf p (number_of m p a) ≡ a
+unfolding elementOf
+number-back m p a n = go (number-cases m p a)
+  where
+    go : Numbered m p a → elementOf p (number_of m p a) ≡ a
+    go (inl r) = ap (elementOf p) r.2 ∙ r.3
+    go (inr r) = absurd (n r.0)
+
+-- it is the least exponent's
+pub number-least : (m p a e j : ℕ) → number_of m p a ≡ suc e → j < e → power p 2 j ≢ a
+number-least m p a e j q l = go (number-cases m p a)
+  where
+    go : Numbered m p a → power p 2 j ≢ a
+    go (inl r) = let s = r.2 in r.4 j (omega arith)
+    go (inr r) = let z = r.0 in absurd (omega arith)
+
+-- and below 2 ^ m
+pub number_lt : (m p a : ℕ) → number_of m p a < 2 ^ m
+number_lt m p a = go (number-cases m p a)
+  where
+    go : Numbered m p a → number_of m p a < 2 ^ m
+    go (inl r) = let s = r.2 in let l = r.1 in omega arith
+    go (inr r) = let z = r.0 in let w = pow_pos m in omega arith
+
+-- 0 means exactly that no power of x is a
+pub number-zero : (m p a : ℕ) → Field m p → 2 ≤ m → (number_of m p a ≡ 0) ↔ ((e : ℕ) → power p 2 e ≢ a)
+number-zero m p a F l = (λ z e q. none z e q (number-cases m p a), λ h. go h (number-cases m p a))
+  where
+    two-lt : 2 < 2 ^ m
+    two-lt = let w = pow_mono l in omega arith
+
+    none : number_of m p a ≡ 0 → (e : ℕ) → power p 2 e ≡ a
+        → Numbered m p a → ⊥
+    none z e q (inl r) = let s = r.2 in omega arith
+    none z e q (inr r) =
+        r.1 (e % (2 ^ m - 1)) (exponent_lt m p F 2 (λ y. omega arith) two-lt e) (sym (power-reduced m p F 2 (λ y. omega arith) two-lt e) ∙ q)
+
+    go : ((e : ℕ) → power p 2 e ≢ a)
+        → Numbered m p a → number_of m p a ≡ 0
+    go h (inl r) = absurd (h r.0 r.3)
+    go h (inr r) = r.0

@@ -21,9 +21,9 @@ use Rattle.galois.specs.Power.{power}
 use Rattle.galois.proofs.Power.{zero-product, exchange, square-xor, square-zero, squares-is}
 use Rattle.galois.proofs.Fermat.{root-unique}
 use Rattle.arithmetic.specs.EvenDigits.{evenDigits}
-use Rattle.galois.specs.Quotient.{quotient_of}
+use Rattle.arithmetic.specs.Quotient.{quotient_of}
 use Rattle.arithmetic.proofs.EvenDigits.{even-lt, squares-of-halves}
-use Rattle.galois.proofs.Quotient.{quotient-product}
+use Rattle.arithmetic.proofs.Quotient.{quotient-product}
 
 -- n digits in each half are enough for p
 module _ (n m p : ℕ) (F : Field m p) (two : 2 ≤ m) (fits : p < 2 ^ (n + n)) where

@@ -1,3 +1,6 @@
 pub mod Modulus
 pub mod Choice
+pub mod Quotient
+pub mod Power
 pub mod EvenDigits
+pub mod Number

@@ -13,12 +13,10 @@ use Rattle.binary.proofs.Xor.{has-degree, exp-lt}
 use Rattle.binary.proofs.Inverse.{no-divisor}
 use Rattle.binary.proofs.Factor.{degree-is, divides-times, factor-free}
 use Rattle.field.specs.Limits.{smallestDegree, largestDegree, polynomialFloor, polynomialCeiling}
-use Rattle.refusal.specs.Tests.{refusal}
-use Rattle.refusal.specs.Outcome.{turnedDown, gives, answerBy}
-use Rattle.field.specs.Tests.{polynomialTests}
+use Rattle.field.specs.Refusal.{turnedDown, gives, answerBy, refusal, polynomialTests}
 use Rattle.field.specs.House.{houseEntry}
 use Rattle.field.specs.Calls.{acceptOutcome}
-use Rattle.field.proofs.Tests.{accepted, accepted-range, in-range, has-factor, degree-of, two-le}
+use Rattle.field.proofs.Refusal.{accepted, accepted-range, in-range, has-factor, degree-of, two-le}
 use Rattle.field.proofs.HouseTable.{house-irreducible}
 
 -- p in range, and no polynomial of degree 1 to m - 1 divides it

@@ -10,23 +10,24 @@ use borrow.Author.Tests.{eq-eqb, lt-ltb, le-ltb, lt-leb}
 use lib.Dec.{eqb, eqb-suc-zero}
 use lib.ListN.{length, get_or}
 use Rattle.algebra.proofs.Search.{some-not, some-none}
+use Rattle.binary.specs.Factor.{degreeOf}
 use Rattle.galois.specs.Polynomial.{Coeffs}
 use Rattle.galois.proofs.Polynomial.{coeff-at, coeffs-of}
-use Rattle.field.specs.Tests.{tooLarge, anyTooLarge, wrongCount}
-use Rattle.field.proofs.Tests.{element-small}
+use Rattle.field.specs.Refusal.{tooLarge, anyTooLarge, wrongCount}
+use Rattle.field.proofs.Refusal.{element-small}
 
-pub coefficients-small : (m : ℕ) (cs : List ℕ) → anyTooLarge m cs ≡ false → Coeffs m cs
+pub coefficients-small : (p : ℕ) (cs : List ℕ) → anyTooLarge p cs ≡ false → Coeffs (degreeOf p) cs
 unfolding anyTooLarge
-coefficients-small m cs e = coeffs-of m cs (λ i l. element-small m (get_or cs i 0) (some-not (λ i. tooLarge m (get_or cs i 0)) (length cs) e i l))
+coefficients-small p cs e = coeffs-of (degreeOf p) cs (λ i l. element-small p (get_or cs i 0) (some-not (λ i. tooLarge p (get_or cs i 0)) (length cs) e i l))
 
-element-passes : (m a : ℕ) → a < 2 ^ m → tooLarge m a ≡ false
+element-passes : (p a : ℕ) → a < 2 ^ degreeOf p → tooLarge p a ≡ false
 unfolding tooLarge
-element-passes m a h = lt-leb (2 ^ m) a h
+element-passes p a h = lt-leb (2 ^ degreeOf p) a h
 
-pub coefficients-pass : (m : ℕ) (cs : List ℕ) → Coeffs m cs → anyTooLarge m cs ≡ false
+pub coefficients-pass : (p : ℕ) (cs : List ℕ) → Coeffs (degreeOf p) cs → anyTooLarge p cs ≡ false
 unfolding anyTooLarge
-coefficients-pass m cs h =
-    some-none (λ i. tooLarge m (get_or cs i 0)) (length cs) (λ i l. element-passes m (get_or cs i 0) (coeff-at m cs i h))
+coefficients-pass p cs h =
+    some-none (λ i. tooLarge p (get_or cs i 0)) (length cs) (λ i l. element-passes p (get_or cs i 0) (coeff-at (degreeOf p) cs i h))
 
 -- the count is right: not 0, and not above the most
 pub count-some : (most n : ℕ) → wrongCount most n ≡ false → 0 < n

@@ -1,9 +1,7 @@
-pub mod Tests
+pub mod Refusal
 pub mod Coefficients
 pub mod Ready
 pub mod HouseTable
 pub mod Acceptance
 pub mod Theorems
 pub mod Unique
-pub mod Elements
-pub mod InField

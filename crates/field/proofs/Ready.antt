@@ -3,17 +3,13 @@ use mathlib.Core.Path.{◌≡◌, sym, ◌∙◌, subst}
 use Prim.Native.Nat.{ℕ, ◌^◌, ◌<◌}
 use Rattle.binary.specs.Factor.{degreeOf}
 use Rattle.arithmetic.specs.Modulus.{FieldModulus}
-use Rattle.field.specs.Accepted.{Accepted, AcceptedAs}
-use Rattle.refusal.specs.Tests.{refusal}
-use Rattle.field.specs.Tests.{polynomialTests, elementTests, elementsTests}
-use Rattle.field.proofs.Tests.{accepted, element-passed, elements-passed}
+use Rattle.field.specs.Accepted.{Accepted}
+use Rattle.field.specs.Refusal.{refusal, polynomialTests, elementTests, elementsTests}
+use Rattle.field.proofs.Refusal.{accepted, element-passed, elements-passed}
 
 module _ (m p : ℕ) (d : m ≡ degreeOf p) where
-  pub accepted-as : Accepted p → AcceptedAs m p
-  accepted-as A = subst (λ (k : ℕ). AcceptedAs k p) (sym d) A
-
-  ready : Accepted p → FieldModulus m p
-  ready A = (accepted-as A).ready
+  pub ready : Accepted p → FieldModulus m p
+  ready A = subst (λ (k : ℕ). FieldModulus k p) (sym d) A.ready
 
   below : (a : ℕ) → a < 2 ^ degreeOf p → a < 2 ^ m
   below a h = subst (λ (k : ℕ). a < 2 ^ k) (sym d) h

@@ -11,18 +11,19 @@ use Rattle.binary.specs.Product.{product}
 use Rattle.binary.specs.Factor.{degreeOf}
 use Rattle.binary.proofs.Inverse.{no-divisor}
 use Rattle.galois.specs.Field.{Field, FieldLaws}
-use Rattle.galois.specs.Power.{power, powerOf}
+use Rattle.galois.specs.Power.{power}
 use Rattle.galois.specs.Trace.{trace}
 use Rattle.galois.proofs.Field.{field_laws}
 use Rattle.galois.proofs.Power.{power-mul, power-product, zero-power, squares-is}
 use Rattle.galois.proofs.Fermat.{fermat, root-square, root-unique}
 use Rattle.galois.proofs.Trace.{trace-xor, trace-square, trace-bit}
 use Rattle.field.specs.Accepted.{Accepted}
-use Rattle.galois.specs.Quotient.{quotient_of}
-use Rattle.galois.specs.Number.{number_of, elementOf}
-use Rattle.galois.proofs.Quotient.{quotient_is, quotient-product, quotient-lt}
-use Rattle.galois.proofs.Exponent.{power-sum}
-use Rattle.galois.proofs.Number.{number-back, number-least, number_lt, number-zero}
+use Rattle.arithmetic.specs.Quotient.{quotient_of}
+use Rattle.arithmetic.specs.Power.{powerOf}
+use Rattle.arithmetic.specs.Number.{number_of, elementOf}
+use Rattle.arithmetic.proofs.Quotient.{quotient_is, quotient-product, quotient-lt}
+use Rattle.arithmetic.proofs.Power.{power-sum}
+use Rattle.arithmetic.proofs.Number.{number-back, number-least, number_lt, number-zero}
 
 module _ (p : ℕ) (A : Accepted p) where
   F : Field (degreeOf p) p

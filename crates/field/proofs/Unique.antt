@@ -1,8 +1,7 @@
 -- Any two answers that a promise permits are the same one: an answer is got back from what its number and value say. Assumes nothing.
-use mathlib.Core.Path.{◌≡◌, refl}
+use mathlib.Core.Path.{◌≡◌, refl, sym, ap, ◌∙◌}
 use Prim.Native.Nat.{ℕ}
-use Rattle.refusal.specs.Outcome.{Outcome, turnedDown, gives}
-use Rattle.refusal.proofs.Outcome.{one-by-back}
+use Rattle.field.specs.Refusal.{Outcome, turnedDown, gives}
 use Rattle.field.specs.Answers.{ofDegree, ofElement, ofTrace, ofNumber, ofPolynomial}
 use Rattle.field.specs.declared.DegreeAnswer.{DegreeAnswer}
 use Rattle.field.specs.declared.DegreeAnswer.TheVariants as degree
@@ -14,6 +13,10 @@ use Rattle.field.specs.declared.NumberAnswer.{NumberAnswer}
 use Rattle.field.specs.declared.NumberAnswer.TheVariants as number
 use Rattle.field.specs.declared.PolynomialAnswer.{PolynomialAnswer}
 use Rattle.field.specs.declared.PolynomialAnswer.TheVariants as polynomial
+
+-- what has a way back is one to one
+pub one-by-back : {A B : Type 0} (of : A → B) (back : B → A) → ((r : A) → back (of r) ≡ r) → (r s : A) → of r ≡ of s → r ≡ s
+one-by-back of back h r s e = sym (h r) ∙ ap back e ∙ h s
 
 pub one-degree : (r s : DegreeAnswer) → ofDegree r ≡ ofDegree s → r ≡ s
 one-degree = one-by-back ofDegree back same

@@ -1,6 +1,6 @@
 -- The number and the value that each case of each answer stands for (01, "Numbers a call is turned down by"). Assumes nothing.
 use Rattle.std.specs.Prelude.{ℕ}
-use Rattle.refusal.specs.Outcome.{Outcome, turnedDown, gives}
+use Rattle.field.specs.Refusal.{Outcome, turnedDown, gives}
 use Rattle.field.specs.declared.DegreeAnswer.{DegreeAnswer}
 use Rattle.field.specs.declared.DegreeAnswer.TheVariants as degree
 use Rattle.field.specs.declared.ElementAnswer.{ElementAnswer}

@@ -5,14 +5,13 @@ use Rattle.std.specs.Int.Signed.{lt_z}
 use Rattle.binary.specs.Xor.{◌⊕◌}
 use Rattle.binary.specs.Product.{product}
 use Rattle.binary.specs.Factor.{degreeOf}
-use Rattle.galois.specs.Power.{power, powerOf}
+use Rattle.galois.specs.Power.{power}
 use Rattle.galois.specs.Trace.{trace}
 use Rattle.field.specs.Limits.{smallestDegree, largestDegree}
-use Rattle.refusal.specs.Tests.{◌⇒◌}
-use Rattle.refusal.specs.Outcome.{Outcome, outcome}
-use Rattle.field.specs.Tests.{polynomialTests, elementTests, elementsTests}
-use Rattle.galois.specs.Quotient.{quotient_of}
-use Rattle.galois.specs.Number.{number_of, elementOf}
+use Rattle.field.specs.Refusal.{◌⇒◌, Outcome, outcome, polynomialTests, elementTests, elementsTests}
+use Rattle.arithmetic.specs.Quotient.{quotient_of}
+use Rattle.arithmetic.specs.Power.{powerOf}
+use Rattle.arithmetic.specs.Number.{number_of, elementOf}
 use Rattle.field.specs.House.{houseEntry}
 
 -- "accepted when m is 2 to 16 and no polynomial of degree 1 to m/2 divides it": then its degree

@@ -1,7 +1,6 @@
 pub mod Limits
-pub mod Tests
+pub mod Refusal
 pub mod Accepted
 pub mod House
 pub mod Calls
 pub mod Answers
-pub mod Elements

@@ -6,8 +6,9 @@ ghost use Rattle.field.specs.Calls.{acceptOutcome, sumOutcome, productOutcome, q
 
 pub mod inner;
 pub mod limits;
+pub mod refused;
 
-use crate::inner::tests;
+use crate::inner::refusal;
 use crate::limits::{LARGEST_DEGREE, SMALLEST_DEGREE};
 use arithmetic::inner::{inverse, logarithm, power, root};
 use binary::inner::modulo;
@@ -57,18 +58,18 @@ pub enum PolynomialAnswer {
 pub fn accept(p: u32) -> DegreeAnswer
     ensures { ofDegree result ≡ acceptOutcome p }
 {
-    let refused = tests::of_polynomial(p);
+    let refused = refusal::of_polynomial(p);
     if refused != 0 {
         return DegreeAnswer::TurnedDown(refused);
     }
-    DegreeAnswer::Degree(tests::degree_of(p))
+    DegreeAnswer::Degree(refusal::degree_of(p))
 }
 
 // The exclusive or of two elements.
 pub fn sum(p: u32, a: Element, b: Element) -> ElementAnswer
     ensures { ofElement result ≡ sumOutcome p a.0 b.0 }
 {
-    let refused = tests::of_elements(p, a.0, b.0);
+    let refused = refusal::of_elements(p, a.0, b.0);
     if refused != 0 {
         return ElementAnswer::TurnedDown(refused);
     }
@@ -79,11 +80,11 @@ pub fn sum(p: u32, a: Element, b: Element) -> ElementAnswer
 pub fn product(p: u32, a: Element, b: Element) -> ElementAnswer
     ensures { ofElement result ≡ productOutcome p a.0 b.0 }
 {
-    let refused = tests::of_elements(p, a.0, b.0);
+    let refused = refusal::of_elements(p, a.0, b.0);
     if refused != 0 {
         return ElementAnswer::TurnedDown(refused);
     }
-    let m = tests::degree_of(p);
+    let m = refusal::degree_of(p);
     ElementAnswer::Found(Element(modulo::product(p, m, a.0, b.0)))
 }
 
@@ -91,14 +92,14 @@ pub fn product(p: u32, a: Element, b: Element) -> ElementAnswer
 pub fn quotient(p: u32, a: Element, b: Element) -> ElementAnswer
     ensures { ofElement result ≡ quotientOutcome p a.0 b.0 }
 {
-    let refused = tests::of_elements(p, a.0, b.0);
+    let refused = refusal::of_elements(p, a.0, b.0);
     if refused != 0 {
         return ElementAnswer::TurnedDown(refused);
     }
     if b.0 == 0 {
-        return ElementAnswer::TurnedDown(refusal::DIVISION_BY_ZERO);
+        return ElementAnswer::TurnedDown(refused::DIVISION_BY_ZERO);
     }
-    let m = tests::degree_of(p);
+    let m = refusal::degree_of(p);
     ElementAnswer::Found(Element(inverse::quotient(p, m, a.0, b.0)))
 }
 
@@ -106,14 +107,14 @@ pub fn quotient(p: u32, a: Element, b: Element) -> ElementAnswer
 pub fn power(p: u32, a: Element, e: Exponent) -> ElementAnswer
     ensures { ofElement result ≡ powerOutcome p a.0 e.0 }
 {
-    let refused = tests::of_element(p, a.0);
+    let refused = refusal::of_element(p, a.0);
     if refused != 0 {
         return ElementAnswer::TurnedDown(refused);
     }
-    if tests::zero_to_negative(a.0, e.0) {
-        return ElementAnswer::TurnedDown(refusal::DIVISION_BY_ZERO);
+    if refusal::zero_to_negative(a.0, e.0) {
+        return ElementAnswer::TurnedDown(refused::DIVISION_BY_ZERO);
     }
-    let m = tests::degree_of(p);
+    let m = refusal::degree_of(p);
     ElementAnswer::Found(Element(power::power(p, m, a.0, e.0)))
 }
 
@@ -121,11 +122,11 @@ pub fn power(p: u32, a: Element, e: Exponent) -> ElementAnswer
 pub fn square_root(p: u32, b: Element) -> ElementAnswer
     ensures { ofElement result ≡ squareRootOutcome p b.0 }
 {
-    let refused = tests::of_element(p, b.0);
+    let refused = refusal::of_element(p, b.0);
     if refused != 0 {
         return ElementAnswer::TurnedDown(refused);
     }
-    let m = tests::degree_of(p);
+    let m = refusal::degree_of(p);
     ElementAnswer::Found(Element(root::square_root(p, m, b.0)))
 }
 
@@ -133,11 +134,11 @@ pub fn square_root(p: u32, b: Element) -> ElementAnswer
 pub fn trace(p: u32, c: Element) -> TraceAnswer
     ensures { ofTrace result ≡ traceOutcome p c.0 }
 {
-    let refused = tests::of_element(p, c.0);
+    let refused = refusal::of_element(p, c.0);
     if refused != 0 {
         return TraceAnswer::TurnedDown(refused);
     }
-    let m = tests::degree_of(p);
+    let m = refusal::degree_of(p);
     TraceAnswer::Trace(power::trace(p, m, c.0))
 }
 
@@ -145,11 +146,11 @@ pub fn trace(p: u32, c: Element) -> TraceAnswer
 pub fn number_of_element(p: u32, a: Element) -> NumberAnswer
     ensures { ofNumber result ≡ numberOutcome p a.0 }
 {
-    let refused = tests::of_element(p, a.0);
+    let refused = refusal::of_element(p, a.0);
     if refused != 0 {
         return NumberAnswer::TurnedDown(refused);
     }
-    let m = tests::degree_of(p);
+    let m = refusal::degree_of(p);
     NumberAnswer::Found(LogNumber(logarithm::number(p, m, a.0)))
 }
 
@@ -157,11 +158,11 @@ pub fn number_of_element(p: u32, a: Element) -> NumberAnswer
 pub fn element_of_number(p: u32, n: LogNumber) -> ElementAnswer
     ensures { ofElement result ≡ elementOutcome p n.0 }
 {
-    let refused = tests::of_element(p, n.0);
+    let refused = refusal::of_element(p, n.0);
     if refused != 0 {
         return ElementAnswer::TurnedDown(refused);
     }
-    let m = tests::degree_of(p);
+    let m = refusal::degree_of(p);
     ElementAnswer::Found(Element(logarithm::element(p, m, n.0)))
 }
 
@@ -169,11 +170,11 @@ pub fn element_of_number(p: u32, n: LogNumber) -> ElementAnswer
 pub fn power_of_x(p: u32, e: Exponent) -> ElementAnswer
     ensures { ofElement result ≡ powerOfXOutcome p e.0 }
 {
-    let refused = tests::of_polynomial(p);
+    let refused = refusal::of_polynomial(p);
     if refused != 0 {
         return ElementAnswer::TurnedDown(refused);
     }
-    let m = tests::degree_of(p);
+    let m = refusal::degree_of(p);
     ElementAnswer::Found(Element(power::power(p, m, 2, e.0)))
 }
 
@@ -182,10 +183,10 @@ pub fn house_polynomial(degree: u32) -> PolynomialAnswer
     ensures { ofPolynomial result ≡ houseOutcome degree }
 {
     if degree < SMALLEST_DEGREE {
-        return PolynomialAnswer::TurnedDown(refusal::OUT_OF_RANGE);
+        return PolynomialAnswer::TurnedDown(refused::OUT_OF_RANGE);
     }
     if LARGEST_DEGREE < degree {
-        return PolynomialAnswer::TurnedDown(refusal::OUT_OF_RANGE);
+        return PolynomialAnswer::TurnedDown(refused::OUT_OF_RANGE);
     }
     PolynomialAnswer::Polynomial(inner::house::entry(degree))
 }

@@ -1,11 +1,10 @@
 -- The calls with more than one list: from the answer of the library's own call to the number and the lists (`roots-down`, `roots-found`, and the
 -- like for what was built and for affine equations). Assumes nothing.
-use mathlib.Core.Path.{◌≡◌, sym, ap, ap₂, ◌∙◌, subst}
+use mathlib.Core.Path.{◌≡◌, sym, ap, ◌∙◌, subst}
 use mathlib.Core.Bool.{Bool}
 use mathlib.Core.List.{List}
 use Prim.Native.Nat.{ℕ}
-use Rattle.refusal.specs.Outcome.{Outcome, turnedDown}
-use Rattle.field.specs.Elements.{asNumbers}
+use Rattle.field.specs.Refusal.{Outcome, turnedDown}
 use Rattle.roots.specs.Calls as roots
 use Rattle.roots.specs.Answers.{ofRootCount, ofRoots, ofBuilding, ofBuilt}
 use Rattle.roots.specs.declared.RootCount.{RootCount}
@@ -37,13 +36,13 @@ roots-down a room n count found often e R =
     let d = not-0 a.says n e R in
     (down a.says n room e, (kept n (value_of a.says) count d, (kept n a.roots found d, kept n a.multiplicities often d)))
 
-pub roots-found : (said : RootsAnswer) (count : RootCount) (numbers : List ℕ) (a : roots.Answer) (room : Bool) (r : ℕ) (number found often number₀ found₀ often₀ : List ℕ)
-    → said.count ≡ count → numbers ≡ asNumbers said.roots → ofRoots said ≡ a
-    → RootsLeft (record { says = ofRootCount count; roots = numbers; multiplicities = said.multiplicities }) room r number found often number₀ found₀ often₀
+pub roots-found : (said : RootsAnswer) (count : RootCount) (a : roots.Answer) (room : Bool) (r : ℕ) (number found often number₀ found₀ often₀ : List ℕ)
+    → said.count ≡ count → ofRoots said ≡ a
+    → RootsLeft (record { says = ofRootCount count; roots = said.roots; multiplicities = said.multiplicities }) room r number found often number₀ found₀ often₀
     → RootsLeft a room r number found often number₀ found₀ often₀
-roots-found said count numbers a room r number found often number₀ found₀ often₀ e n q h =
+roots-found said count a room r number found often number₀ found₀ often₀ e q h =
     subst (λ (b : roots.Answer). RootsLeft b room r number found often number₀ found₀ often₀)
-    (ap₂ (λ (k : RootCount) (l : List ℕ). record { says = ofRootCount k; roots = l; multiplicities = said.multiplicities }) (sym e) n ∙ q) h
+    (ap (λ (k : RootCount). record { says = ofRootCount k; roots = said.roots; multiplicities = said.multiplicities }) (sym e) ∙ q) h
 
 -- a call that builds: its number and its list
 abbrev pub BuiltLeft : roots.Built → Bool → ℕ → List ℕ → List ℕ → Type 0
@@ -68,10 +67,9 @@ space-down a room n space steps e R =
     let d = not-0 a.says n e R in
     (down a.says n room e, (kept n (spaceValues a.says a.base) space d, kept n a.directions steps d))
 
-pub space-found : (said : AffineAnswer) (kind : RootSpace) (numbers : List ℕ) (a : affine.Answer) (room : Bool) (r : ℕ) (space steps space₀ steps₀ : List ℕ)
-    → said.space ≡ kind → numbers ≡ asNumbers said.directions → ofAffine said ≡ a
-    → SpaceLeft (record { says = ofSpace kind; base = said.base.0; directions = numbers }) room r space steps space₀ steps₀
+pub space-found : (said : AffineAnswer) (kind : RootSpace) (a : affine.Answer) (room : Bool) (r : ℕ) (space steps space₀ steps₀ : List ℕ) → said.space ≡ kind → ofAffine said ≡ a
+    → SpaceLeft (record { says = ofSpace kind; base = said.base.0; directions = said.directions }) room r space steps space₀ steps₀
     → SpaceLeft a room r space steps space₀ steps₀
-space-found said kind numbers a room r space steps space₀ steps₀ e n q h =
+space-found said kind a room r space steps space₀ steps₀ e q h =
     subst (λ (b : affine.Answer). SpaceLeft b room r space steps space₀ steps₀)
-    (ap₂ (λ (k : RootSpace) (l : List ℕ). record { says = ofSpace k; base = said.base.0; directions = l }) (sym e) n ∙ q) h
+    (ap (λ (k : RootSpace). record { says = ofSpace k; base = said.base.0; directions = said.directions }) (sym e) ∙ q) h

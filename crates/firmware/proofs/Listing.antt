@@ -10,9 +10,8 @@ use lib.Dec.{ltb}
 use lib.ListN.{length, drop}
 use Rattle.algebra.specs.Search.{someBelow}
 use Rattle.binary.specs.Factor.{degreeOf}
-use Rattle.refusal.specs.Tests.{Test, ◌⇒◌, refusal}
-use Rattle.refusal.specs.Outcome.{Outcome, turnedDown, gives, answerBy, outcome}
-use Rattle.refusal.proofs.Tests.{refusal-kept, refusal-append}
+use Rattle.field.specs.Refusal.{Test, ◌⇒◌, refusal, Outcome, turnedDown, gives, answerBy, outcome}
+use Rattle.field.proofs.Refusal.{refusal-kept, refusal-append}
 use Rattle.affine.specs.Equation.{isRoot, allRoots, base_of, directionsOf}
 use Rattle.affine.specs.Calls.{equationTests, Answer, solution, refusedAnswer, solveAnswer, listingTests, listingOutcome, listingAfter}
 use Rattle.firmware.specs.Lent.{returned, after, Refuses}

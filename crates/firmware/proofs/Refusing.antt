@@ -11,15 +11,14 @@ use Rattle.algebra.specs.Search.{someBelow}
 use Rattle.binary.specs.Xor.{◌⊕◌}
 use Rattle.binary.specs.Product.{product}
 use Rattle.binary.specs.Factor.{degreeOf}
-use Rattle.galois.specs.Power.{power, powerOf}
+use Rattle.galois.specs.Power.{power}
 use Rattle.galois.specs.Trace.{trace}
 use Rattle.galois.specs.Roots.{rootsOf}
-use Rattle.galois.specs.Quotient.{quotient_of}
-use Rattle.galois.specs.Number.{number_of, elementOf}
+use Rattle.arithmetic.specs.Quotient.{quotient_of}
+use Rattle.arithmetic.specs.Power.{powerOf}
+use Rattle.arithmetic.specs.Number.{number_of, elementOf}
 use Rattle.field.specs.Limits.{smallestDegree, largestDegree}
-use Rattle.refusal.specs.Tests.{Test, ◌⇒◌, refusal}
-use Rattle.refusal.specs.Outcome.{Outcome, turnedDown, gives, answerBy, outcome}
-use Rattle.field.specs.Tests.{polynomialTests, elementTests, elementsTests}
+use Rattle.field.specs.Refusal.{Test, ◌⇒◌, refusal, Outcome, turnedDown, gives, answerBy, outcome, polynomialTests, elementTests, elementsTests}
 use Rattle.field.specs.House.{houseEntry}
 use Rattle.field.specs.Calls.{acceptOutcome, sumOutcome, productOutcome, quotientOutcome, powerOutcome, squareRootOutcome, traceOutcome, numberOutcome, elementOutcome, powerOfXOutcome, houseOutcome}
 use Rattle.affine.specs.Equation.{isRoot, allRoots, base_of, directionsOf, rootAt}

@@ -7,7 +7,7 @@ use mathlib.Core.List.{List, [], ◌∷◌}
 use Prim.Native.Nat.{ℕ, zero, suc, ◌≤◌, ◌<◌}
 use borrow.Author.Tests.{le-leb, lt-leb}
 use lib.ListN.{length, drop, set}
-use Rattle.refusal.specs.Outcome.{Outcome, turnedDown}
+use Rattle.field.specs.Refusal.{Outcome, turnedDown}
 use Rattle.firmware.specs.Lent.{fits, returned, after, value_of, Refuses}
 
 pub fits-long : (n : ℕ) (list : List ℕ) → n ≤ length list → fits n list ≡ true

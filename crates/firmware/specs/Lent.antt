@@ -1,7 +1,7 @@
 -- How a call for C answers: by a number, and in the lists that its caller lends. Assumes nothing.
 use Rattle.std.specs.Prelude.{◌≢◌, Bool, true, false, ◌&&◌, List, [], ◌∷◌, ◌++◌, ℕ, zero, suc, leb, length, drop}
-use Rattle.refusal.specs.Outcome.{Outcome, turnedDown, gives}
-use Rattle.affine.specs.Limits.{places}
+use Rattle.field.specs.Refusal.{Outcome, turnedDown, gives}
+use Rattle.linear.specs.Limits.{places}
 use Rattle.roots.specs.Limits.{mostRoots}
 use Rattle.affine.specs.Calls.{Space}
 use Rattle.frames.specs.Limits.{answerRoom}

@@ -5,7 +5,7 @@ ghost use Rattle.roots.specs.Calls.{solveAnswer, buildAnswer};
 ghost use Rattle.firmware.specs.Lent.{fits, returned, after, value_of, rootsFit, roomNumber};
 
 use crate::inner::lent::{put, put_all};
-use roots::inner::elements::as_numbers;
+use field::refused;
 use roots::limits::{MOST_COEFFICIENTS, MOST_ROOTS};
 use roots::{Building, RootCount};
 
@@ -24,10 +24,10 @@ fn put_roots(
     ensures multiplicities_after { multiplicities.new ≡ after result often multiplicities.old }
 {
     if roots.len() < MOST_ROOTS {
-        return refusal::NO_PLACE;
+        return refused::NO_PLACE;
     }
     if multiplicities.len() < MOST_ROOTS {
-        return refusal::NO_PLACE;
+        return refused::NO_PLACE;
     }
     let no_room = put(n, count);
     if no_room != 0 {
@@ -54,8 +54,7 @@ pub extern "C" fn gfroots_solve(
 {
     let answer = roots::solve(p, coefficients);
     let said = answer.count;
-    let elements = answer.roots;
-    let found = as_numbers(elements);
+    let found = answer.roots;
     let often = answer.multiplicities;
     match said {
         RootCount::TurnedDown(number) => number,
@@ -68,7 +67,7 @@ fn put_coefficients(built: [u32; MOST_COEFFICIENTS], coefficients: &mut [u32]) -
     ensures coefficients_after { coefficients.new ≡ after result built coefficients.old }
 {
     if coefficients.len() < MOST_COEFFICIENTS {
-        return refusal::NO_PLACE;
+        return refused::NO_PLACE;
     }
     put_all(&built, coefficients);
     0

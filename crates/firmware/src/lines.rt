@@ -4,6 +4,7 @@ ghost use Rattle.frames.specs.Answer.{answerText};
 ghost use Rattle.firmware.specs.Lent.{after, lineFits, roomNumber};
 
 use crate::inner::lent::put;
+use field::refused;
 use frames::limits::ANSWER_ROOM;
 
 // The answer to one line, without line feeds, and how many characters it has.
@@ -14,7 +15,7 @@ pub extern "C" fn gfroots_answer_line(line: &[u8], count: &mut [u32], answer: &m
     ensures answer_after { answer.new ≡ after result (answerText line.now) answer.old }
 {
     if answer.len() < ANSWER_ROOM {
-        return refusal::NO_PLACE;
+        return refused::NO_PLACE;
     }
     let mut out = [0u8; ANSWER_ROOM];
     let n = frames::answer_line(line, &mut out);

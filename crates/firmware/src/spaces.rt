@@ -6,9 +6,10 @@ ghost use Rattle.affine.specs.Calls.{solveAnswer, placeOutcome, listingOutcome};
 ghost use Rattle.firmware.specs.Lent.{fits, returned, after, value_of, spaceValues, spaceFits, roomNumber};
 
 use crate::inner::lent::{put, put_all, put_element};
-use affine::inner::elements::as_numbers;
-use affine::limits::{Entry, PLACES};
 use affine::{CountAnswer, RootSpace};
+use field::refused;
+use linear::inner::elimination::PLACES;
+use linear::inner::listing::Entry;
 
 // Found or not, k and the base in three places.
 const SPACE_PLACES: usize = 3;
@@ -26,10 +27,10 @@ fn put_space(
     ensures directions_after { directions.new ≡ after result steps directions.old }
 {
     if space.len() < SPACE_PLACES {
-        return refusal::NO_PLACE;
+        return refused::NO_PLACE;
     }
     if directions.len() < PLACES {
-        return refusal::NO_PLACE;
+        return refused::NO_PLACE;
     }
     let values = [found, k, base];
     put_all(&values, space);
@@ -52,8 +53,7 @@ pub extern "C" fn gfroots_affine_solve(
     let answer = affine::solve(p, coefficients);
     let said = answer.space;
     let base = answer.base;
-    let elements = answer.directions;
-    let steps = as_numbers(elements);
+    let steps = answer.directions;
     match said {
         RootSpace::TurnedDown(number) => number,
         RootSpace::NoRoot => put_space(0, 0, base.0, steps, space, directions),
@@ -83,8 +83,8 @@ fn without_count(p: u32, coefficients: &[u32]) -> u32
     let said = answer.space;
     match said {
         RootSpace::TurnedDown(number) => number,
-        RootSpace::NoRoot => refusal::NO_PLACE,
-        RootSpace::Found(k) => refusal::NO_PLACE,
+        RootSpace::NoRoot => refused::NO_PLACE,
+        RootSpace::Found(k) => refused::NO_PLACE,
     }
 }
 

@@ -11,17 +11,16 @@ use Rattle.algebra.specs.Lists.{Member, padded}
 use Rattle.algebra.specs.Search.{someBelow}
 use Rattle.algebra.proofs.Places.{padded-at}
 use Rattle.binary.specs.Factor.{degreeOf}
-use Rattle.affine.specs.Limits.{places}
+use Rattle.linear.specs.Limits.{places}
 use Rattle.linear.specs.Solution.{placed}
 use Rattle.galois.specs.Roots.{rootsOf}
 use Rattle.galois.specs.Multiplicity.{multiplicity}
 use Rattle.field.specs.Accepted.{Accepted}
-use Rattle.refusal.specs.Tests.{refusal}
-use Rattle.refusal.specs.Outcome.{answerBy}
-use Rattle.refusal.proofs.Tests.{refusal-below}
+use Rattle.field.specs.Refusal.{refusal, answerBy}
+use Rattle.field.proofs.Refusal.{refusal-below}
 use Rattle.affine.specs.Equation.{isRoot, base_of, directionsOf}
 use Rattle.affine.specs.Calls as affine
-use Rattle.affine.proofs.Tests.{equation-accepted}
+use Rattle.affine.proofs.Tests.{equation-ready, ready-accepted}
 use Rattle.affine.proofs.Theorems.{base-element, direction-element}
 use Rattle.roots.specs.Limits.{mostRoots}
 use Rattle.roots.specs.Calls as roots
@@ -82,7 +81,7 @@ module _ (p : ℕ) (cs : List ℕ) (z : refusal (affine.equationTests p cs) ≡ 
   base = base_of m p cs
 
   A : Accepted p
-  A = equation-accepted p cs z
+  A = ready-accepted p cs (equation-ready p cs z)
 
   pub direction-bytes : (i : ℕ) → i < length ds → AllBytes (directionBytes (placed ds) i)
   direction-bytes i l = element-small (get_or (placed ds) i 0) (omega (arith, placed_at ds i, field-small m (get_or ds i 0) A.largest (direction-element p A cs i l)))

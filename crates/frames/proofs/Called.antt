@@ -10,8 +10,8 @@ use lib.Dec.{eqb}
 use lib.ListN.{length, take}
 use lib.Seq.{take_at}
 use Rattle.algebra.specs.Lists.{padded}
-use Rattle.refusal.specs.Tests.{refusal}
-use Rattle.refusal.proofs.Outcome.{refused-by, answered-by}
+use Rattle.field.specs.Refusal.{refusal}
+use Rattle.field.proofs.Refusal.{refused-by, answered-by}
 use Rattle.affine.specs.Calls as affine
 use Rattle.roots.specs.Calls as roots
 use Rattle.frames.specs.Limits.{mostCounted}

@@ -12,8 +12,8 @@ use lib.ListN.{length, get_or, length-map}
 use Rattle.algebra.specs.Lists.{countUp, padded}
 use Rattle.algebra.proofs.CountUp.{countUp-length, map-countUp}
 use Rattle.algebra.proofs.Places.{padded-length}
-use Rattle.refusal.specs.Tests.{refusal}
-use Rattle.refusal.proofs.Tests.{passes}
+use Rattle.field.specs.Refusal.{refusal}
+use Rattle.field.proofs.Refusal.{passes}
 use Rattle.frames.specs.Limits.{mostCounted}
 use Rattle.frames.specs.Frame.{countOf, coefficientAt, coefficientsOf, disagrees, lineTests, WellFormed}
 

@@ -9,14 +9,13 @@ use lib.Dec.{eqb}
 use lib.ListN.{length, length-append}
 use Rattle.algebra.specs.Search.{someBelow}
 use Rattle.binary.specs.Factor.{degreeOf}
-use Rattle.affine.specs.Limits.{places}
+use Rattle.linear.specs.Limits.{places}
 use Rattle.linear.proofs.Listed.{directions-length}
 use Rattle.galois.specs.Roots.{rootsOf}
-use Rattle.refusal.specs.Tests.{refusal}
-use Rattle.refusal.specs.Outcome.{Outcome, turnedDown, gives, answerBy}
+use Rattle.field.specs.Refusal.{refusal, Outcome, turnedDown, gives, answerBy}
 use Rattle.affine.specs.Equation.{isRoot, isDirection, base_of, directionsOf}
 use Rattle.affine.specs.Calls as affine
-use Rattle.affine.proofs.Tests.{equation-accepted}
+use Rattle.affine.proofs.Tests.{equation-ready}
 use Rattle.roots.specs.Calls as roots
 use Rattle.roots.proofs.Theorems.{count_fits}
 use Rattle.frames.specs.Limits.{answerRoom}
@@ -38,7 +37,7 @@ roots-fit p cs = go (refusal (roots.equationTests p cs)) refl
 
 pub directions-few : (p : ℕ) (cs : List ℕ) → refusal (affine.equationTests p cs) ≡ 0 → length (directionsOf (degreeOf p) p cs) ≤ places
 unfolding directionsOf
-directions-few p cs e = omega (arith, directions-length (isDirection p cs) (degreeOf p), (equation-accepted p cs e).largest)
+directions-few p cs e = omega (arith, directions-length (isDirection p cs) (degreeOf p), (equation-ready p cs e).largest)
 
 pub directions-fit : (p : ℕ) (cs : List ℕ) → FewDirections (affine.solveAnswer p cs).says
 directions-fit p cs = go (refusal (affine.equationTests p cs)) refl

@@ -10,7 +10,7 @@ use lib.Dec.{eqb}
 use lib.ListN.{length, take, drop, replicate, length-append, length-replicate}
 use lib.Seq.{sets, sets-eq, length-sets, length-take-le, take-append-le, take_all, take_at}
 use Rattle.algebra.specs.Lists.{padded}
-use Rattle.refusal.proofs.Outcome.{refused-by}
+use Rattle.field.proofs.Refusal.{refused-by}
 use Rattle.frames.specs.Limits.{mostDigits}
 use Rattle.frames.specs.Frame.{kind_of, polynomialOf, coefficientsOf, lineTests}
 use Rattle.frames.specs.Answer.{calledBytes, answerBytes}

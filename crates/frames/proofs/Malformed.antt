@@ -9,8 +9,8 @@ use native.Mathlib.Omega.{arith}
 use borrow.Author.Tests.{lt-ltb, le-ltb, eq-eqb, ne_eqb}
 use lib.Dec.{eqb, ltb}
 use lib.ListN.{length}
-use Rattle.refusal.specs.Tests.{Test, ◌⇒◌, refusal}
-use Rattle.refusal.proofs.Tests.{none-applies}
+use Rattle.field.specs.Refusal.{Test, ◌⇒◌, refusal}
+use Rattle.field.proofs.Refusal.{none-applies}
 use Rattle.frames.specs.Limits.{mostDigits}
 use Rattle.frames.specs.Frame.{kind_of, anotherCharacter, anotherKind, disagrees, lineTests}
 

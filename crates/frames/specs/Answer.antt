@@ -1,8 +1,7 @@
 -- What is answered to a frame line (01, "Frame lines"). Assumes nothing.
 use Rattle.std.specs.Prelude.{Bool, true, false, List, [], ◌∷◌, ◌++◌, ℕ, ◌≤◌, eqb, get_or}
-use Rattle.refusal.specs.Tests.{refusal}
-use Rattle.refusal.specs.Outcome.{Outcome, turnedDown, gives, answerBy}
-use Rattle.affine.specs.Limits.{places}
+use Rattle.field.specs.Refusal.{refusal, Outcome, turnedDown, gives, answerBy}
+use Rattle.linear.specs.Limits.{places}
 use Rattle.affine.specs.Calls as affine
 use Rattle.roots.specs.Limits.{mostRoots}
 use Rattle.roots.specs.Calls as roots

@@ -3,7 +3,7 @@
 use Rattle.std.specs.Prelude.{◌≡◌, Bool, true, false, not, ◌||◌, ◌&&◌, List, [], ◌∷◌, map, ℕ, ◌+◌, ◌-◌, ◌*◌, ◌/◌, ◌%◌, ◌≤◌, eqb, leb, ltb, length, get_or}
 use Rattle.algebra.specs.Lists.{countUp}
 use Rattle.algebra.specs.Search.{someBelow}
-use Rattle.refusal.specs.Tests.{Test, ◌⇒◌}
+use Rattle.field.specs.Refusal.{Test, ◌⇒◌}
 use Rattle.frames.specs.Limits.{mostDigits}
 
 -- from the character a up to z

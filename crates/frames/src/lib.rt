@@ -10,6 +10,7 @@ ghost use Rattle.frames.specs.Stream.{taken_of, lengthAfter, lineAfter, written_
 
 pub mod inner;
 pub mod limits;
+pub mod refused;
 
 use crate::inner::call::put_answer;
 use crate::inner::stream::{kept, put_line, until_feed};

@@ -1,7 +1,5 @@
 pub mod Field
-pub mod Quotient
 pub mod Power
-pub mod Exponent
 pub mod Fermat
 pub mod Trace
 pub mod Polynomial
@@ -16,7 +14,6 @@ pub mod QuadraticRoots
 pub mod Multiplicity
 pub mod Build
 pub mod Cyclic
-pub mod Number
 pub mod RootList
 pub mod Padding
 pub mod Simple

@@ -1,7 +1,5 @@
 pub mod Field
-pub mod Quotient
 pub mod Power
-pub mod Number
 pub mod Trace
 pub mod HalfTrace
 pub mod Polynomial

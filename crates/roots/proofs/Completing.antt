@@ -16,8 +16,8 @@ use Rattle.galois.specs.Polynomial.{value, Root}
 use Rattle.galois.specs.Roots.{rootsOf}
 use Rattle.galois.proofs.Padding.{value-pad}
 use Rattle.galois.proofs.RootList.{roots-iff, roots-ascending}
-use Rattle.galois.specs.Quotient.{quotient_of}
-use Rattle.galois.proofs.Quotient.{quotient_is, quotient-product, quotient-lt}
+use Rattle.arithmetic.specs.Quotient.{quotient_of}
+use Rattle.arithmetic.proofs.Quotient.{quotient_is, quotient-product, quotient-lt}
 use Rattle.roots.specs.Limits.{mostRoots}
 use Rattle.roots.specs.Equation.{Ready, HoldsRoots}
 use Rattle.roots.specs.Unsorted.{Holds, AreRoots}

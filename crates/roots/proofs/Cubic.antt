@@ -27,8 +27,8 @@ use Rattle.galois.proofs.Field.{ring}
 use Rattle.galois.proofs.Power.{zero-product, mul-lt}
 use Rattle.galois.proofs.Polynomial.{value-lt}
 use Rattle.galois.proofs.RootList.{roots-iff, roots-ascending}
-use Rattle.galois.specs.Quotient.{quotient_of}
-use Rattle.galois.proofs.Quotient.{quotient-product, quotient-lt}
+use Rattle.arithmetic.specs.Quotient.{quotient_of}
+use Rattle.arithmetic.proofs.Quotient.{quotient-product, quotient-lt}
 use Rattle.roots.specs.Equation.{Ready, HoldsRoots, quarticOf}
 use Rattle.roots.specs.Unsorted.{entries, Fits, Holds, AreRoots}
 use Rattle.roots.specs.declared.inner.unsorted.Unsorted.{Unsorted}

@@ -15,7 +15,7 @@ use Rattle.binary.proofs.Xor.{is-xor}
 use Rattle.binary.specs.Product.{product}
 use Rattle.binary.proofs.Product.{product-comm}
 use Rattle.arithmetic.specs.Modulus.{FieldModulus}
-use Rattle.galois.proofs.Quotient.{quotient_is}
+use Rattle.arithmetic.proofs.Quotient.{quotient_is}
 use Rattle.roots.specs.Limits.{mostRoots}
 use Rattle.roots.specs.Equation.{Units, fromInverse}
 use Rattle.roots.specs.Unsorted.{entries, Fits, Holds}

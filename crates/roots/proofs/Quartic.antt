@@ -29,8 +29,8 @@ use Rattle.galois.proofs.Fermat.{root-square}
 use Rattle.galois.proofs.Polynomial.{value-lt}
 use Rattle.galois.proofs.Roots.{few-roots}
 use Rattle.galois.proofs.RootList.{roots-iff, roots-ascending}
-use Rattle.galois.specs.Quotient.{quotient_of}
-use Rattle.galois.proofs.Quotient.{quotient_is, quotient-product, quotient-lt}
+use Rattle.arithmetic.specs.Quotient.{quotient_of}
+use Rattle.arithmetic.proofs.Quotient.{quotient_is, quotient-product, quotient-lt}
 use Rattle.roots.specs.Limits.{mostRoots}
 use Rattle.roots.specs.Equation.{Ready, HoldsRoots, Units, quarticOf, shift, fromInverse}
 use Rattle.roots.proofs.Completing.{positive}

@@ -17,11 +17,8 @@ use Rattle.galois.specs.Roots.{rootsOf, elementsOf}
 use Rattle.galois.proofs.Build.{build-length, build-coeffs, build-nonzero}
 use Rattle.galois.proofs.BuildRoots.{roots-back, multiplicities-back, build-product, build-order}
 use Rattle.galois.proofs.Padding.{value-pad, coeffs-pad, zero-pad}
-use Rattle.refusal.specs.Tests.{◌⇒◌, refusal}
-use Rattle.refusal.specs.Outcome.{gives, answerBy}
-use Rattle.field.specs.Tests.{anyTooLarge, polynomialTests}
-use Rattle.refusal.proofs.Tests.{passes, none-applies}
-use Rattle.refusal.proofs.Outcome.{answered-by, same_answer}
+use Rattle.field.specs.Refusal.{◌⇒◌, refusal, gives, answerBy, anyTooLarge, polynomialTests}
+use Rattle.field.proofs.Refusal.{passes, answered-by, none-applies, same_answer}
 use Rattle.field.proofs.Coefficients.{count-right, coefficients-small, coefficients-pass}
 use Rattle.roots.specs.Limits.{mostCoefficients, mostRoots}
 use Rattle.roots.specs.Calls.{equationTests, buildTests, solved, refusedAnswer, solveAnswer, Built, built, refusedBuilt, buildAnswer}
@@ -70,7 +67,7 @@ module _ (p : ℕ) (rs : List ℕ) (z : refusal (buildTests p rs) ≡ 0) where
           (
             count-right mostCoefficients (length five) (omega arith) (omega arith),
             (
-              coefficients-pass m five (coeffs-pad m (build p rs) n (build-coeffs m p F rs)),
+              coefficients-pass p five (coeffs-pad m (build p rs) n (build-coeffs m p F rs)),
               (nonzero-passes five (λ w. build-nonzero m p F rs (zero-pad (build p rs) n w)), tt),
             ),
           ),
@@ -110,11 +107,11 @@ module _ (p : ℕ) (ks : List ℕ) (a b : ℕ) (rs : List ℕ) where
   abbrev other : List ℕ
   other = ks ++ b ∷ a ∷ rs
 
-  same-large : anyTooLarge (degreeOf p) one ≡ anyTooLarge (degreeOf p) other
+  same-large : anyTooLarge p one ≡ anyTooLarge p other
   same-large =
-      same-no (anyTooLarge (degreeOf p) one) (anyTooLarge (degreeOf p) other) (
-        λ e. coefficients-pass (degreeOf p) other (swap-small (degreeOf p) ks a b rs (coefficients-small (degreeOf p) one e)),
-        λ e. coefficients-pass (degreeOf p) one (swap-small (degreeOf p) ks b a rs (coefficients-small (degreeOf p) other e)),
+      same-no (anyTooLarge p one) (anyTooLarge p other) (
+        λ e. coefficients-pass p other (swap-small (degreeOf p) ks a b rs (coefficients-small p one e)),
+        λ e. coefficients-pass p one (swap-small (degreeOf p) ks b a rs (coefficients-small p other e)),
       )
 
   same-refusal : refusal (buildTests p one) ≡ refusal (buildTests p other)

@@ -17,8 +17,8 @@ use Rattle.galois.specs.Roots.{rootsOf}
 use Rattle.galois.proofs.Power.{mul-lt, power-lt}
 use Rattle.galois.proofs.Polynomial.{coeff-at}
 use Rattle.arithmetic.specs.Modulus.{FieldModulus}
-use Rattle.galois.specs.Quotient.{quotient_of}
-use Rattle.galois.proofs.Quotient.{quotient-lt}
+use Rattle.arithmetic.specs.Quotient.{quotient_of}
+use Rattle.arithmetic.proofs.Quotient.{quotient-lt}
 use Rattle.roots.specs.Limits.{mostRoots}
 use Rattle.roots.specs.Equation.{Ready, HoldsRoots, Units, quarticOf, shift, fromInverse}
 use Rattle.roots.specs.Unsorted.{entries, Fits, Holds, AreRoots}

@@ -24,7 +24,7 @@ use Rattle.galois.specs.Roots.{isRoot, rootsOf}
 use Rattle.galois.proofs.Field.{one-lt, ring}
 use Rattle.galois.proofs.Power.{mul-lt, square-zero, square-injective}
 use Rattle.galois.proofs.Polynomial.{value-lt}
-use Rattle.galois.specs.Quotient.{quotient_of}
+use Rattle.arithmetic.specs.Quotient.{quotient_of}
 use Rattle.roots.specs.Equation.{quarticOf}
 
 -- over 19, 2·x² + x + 1: D is 1·2/1 = 2, of trace 0, and there are two roots; the printed (1/2)/1 is 9, of trace 1, and would say none

@@ -10,12 +10,14 @@ use Rattle.algebra.specs.Lists.{countUp}
 use Rattle.algebra.proofs.Front.{front-map}
 use Rattle.binary.specs.Xor.{◌⊕◌}
 use Rattle.binary.proofs.Xor.{is-xor, xor-zero, xor_assoc}
+use Rattle.binary.specs.Factor.{degreeOf}
+use Rattle.binary.proofs.Factor.{degree-is}
+use Rattle.linear.specs.Limits.{places}
 use Rattle.linear.specs.Directions.{choose}
 use Rattle.linear.proofs.Choose.{choose-zero, choose_one, choose-two, choose-three}
 use Rattle.linear.specs.declared.inner.solution.Solution.{Solution}
 use Rattle.galois.specs.Roots.{rootsOf}
 use Rattle.galois.proofs.RootList.{roots_few}
-use Rattle.affine.specs.Limits.{places}
 use Rattle.affine.specs.Equation.{allRoots, solutionOf}
 use Rattle.affine.specs.Equation as affine
 use Rattle.affine.specs.Answers.{rootCount}
@@ -51,24 +53,25 @@ four-front : (b : ℕ) (ds : List ℕ) (n : ℕ) → n ≤ 4 → take n (four b 
 four-front b ds n h =
     ap (take n) (four_are b ds) ∙ front-map (λ k. b ⊕ choose ds k) 0 n 4 h
 
-module _ (m p c l0 l1 l2 : ℕ) (R : Ready m p (quarticOf c l0 l1 l2)) (s : Solution) (e : s ≡ solutionOf m p (folded m c l0 l1 l2)) where
+module _ (m p c l0 l1 l2 : ℕ) (R : Ready m p (quarticOf c l0 l1 l2)) (s : Solution) (e : s ≡ solutionOf p (folded m c l0 l1 l2)) where
   abbrev cs : List ℕ
   cs = folded m c l0 l1 l2
 
   abbrev rs : List ℕ
   rs = rootsOf m p (quarticOf c l0 l1 l2)
 
-  A : affine.Ready m p cs
+  A : affine.Ready (degreeOf p) p cs
   A = folded-ready m p c l0 l1 l2 R.field R.largest R.small
 
   pub space-fits : s.count ≤ places
-  space-fits = count_fits m p cs s e A
+  space-fits = count_fits p cs s e A
 
-  all_are : allRoots m p cs ≡ rs
-  all_are = folded-roots m p R.field.field c l0 l1 l2
+  all_are : allRoots (degreeOf p) p cs ≡ rs
+  all_are =
+      ap (λ (k : ℕ). allRoots k p cs) (degree-is m p R.field.modulus.degree) ∙ folded-roots m p R.field.field c l0 l1 l2
 
   count-length : rootCount s.found s.count ≡ length rs
-  count-length = count-is m p cs s e A ∙ ap length all_are
+  count-length = count-is p cs s e A ∙ ap length all_are
 
   pub solutions-few : rootCount s.found s.count ≤ mostRoots
   solutions-few = let l = roots_few m p R.field.field (quarticOf c l0 l1 l2) R.small R.nonzero in omega (arith, count-length)
@@ -84,8 +87,8 @@ module _ (m p c l0 l1 l2 : ℕ) (R : Ready m p (quarticOf c l0 l1 l2)) (s : Solu
       go (yes z) = ap (λ (n : ℕ). map (λ k. s.base ⊕ choose s.directions k) (countUp 0 n)) z ∙ empty rs (sym count-length ∙ z)
       go (no n) =
           let some : 0 < rootCount s.found s.count = omega arith in
-          ap (λ (j : ℕ). map (λ k. s.base ⊕ choose s.directions k) (countUp 0 j)) (count-is m p cs s e A ∙ sym (listing-count m p cs s e A 0 some))
-          ∙ listing-is m p cs s e A 0 some ∙ all_are
+          ap (λ (j : ℕ). map (λ k. s.base ⊕ choose s.directions k) (countUp 0 j)) (count-is p cs s e A ∙ sym (listing-count p cs s e A 0 some))
+          ∙ listing-is p cs s e A 0 some ∙ all_are
 
   pub solutions-are : (n : ℕ) → n ≡ rootCount s.found s.count
       → take n (four s.base (get_or s.directions 0 0) (get_or s.directions 1 0)) ≡ rs

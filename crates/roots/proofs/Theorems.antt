@@ -21,11 +21,9 @@ use Rattle.galois.specs.Multiplicity.{multiplicity, PowerDivides}
 use Rattle.galois.proofs.RootList.{roots-iff, roots-ascending, roots_few}
 use Rattle.galois.proofs.Largest.{multiplicity-divides, multiplicity-largest}
 use Rattle.galois.proofs.Degree.{has-degree, total_at_most, roots-at-most}
-use Rattle.refusal.specs.Tests.{Test, ◌⇒◌, refusal}
-use Rattle.refusal.specs.Outcome.{answerBy}
-use Rattle.field.specs.Tests.{anyTooLarge, polynomialTests, wrongCount}
+use Rattle.field.specs.Refusal.{Test, ◌⇒◌, refusal, answerBy, anyTooLarge, polynomialTests, wrongCount}
 use Rattle.field.proofs.Coefficients.{count-right}
-use Rattle.refusal.proofs.Outcome.{same_answer}
+use Rattle.field.proofs.Refusal.{same_answer}
 use Rattle.roots.specs.Limits.{mostCoefficients, mostRoots}
 use Rattle.roots.specs.Calls.{allZero, equationTests, refusedAnswer, solved, solveAnswer}
 use Rattle.roots.proofs.Zeros.{large-pad, zero-test-pad, solved-pad}
@@ -43,9 +41,9 @@ module _ (p : ℕ) (cs : List ℕ) (n : ℕ) (some : 0 < length cs) (few : lengt
 
   same_tests : equationTests p more ≡ equationTests p cs
   same_tests =
-      ap (λ (b : Bool). polynomialTests p ++ b ⇒ 3 ∷ anyTooLarge (degreeOf p) more ⇒ 4 ∷ allZero more ⇒ 5 ∷ []) same_count
-      ∙ ap (λ (b : Bool). polynomialTests p ++ wrongCount mostCoefficients (length cs) ⇒ 3 ∷ b ⇒ 4 ∷ allZero more ⇒ 5 ∷ []) (large-pad (degreeOf p) cs n)
-      ∙ ap (λ (b : Bool). polynomialTests p ++ wrongCount mostCoefficients (length cs) ⇒ 3 ∷ anyTooLarge (degreeOf p) cs ⇒ 4 ∷ b ⇒ 5 ∷ []) (zero-test-pad cs n)
+      ap (λ (b : Bool). polynomialTests p ++ b ⇒ 3 ∷ anyTooLarge p more ⇒ 4 ∷ allZero more ⇒ 5 ∷ []) same_count
+      ∙ ap (λ (b : Bool). polynomialTests p ++ wrongCount mostCoefficients (length cs) ⇒ 3 ∷ b ⇒ 4 ∷ allZero more ⇒ 5 ∷ []) (large-pad p cs n)
+      ∙ ap (λ (b : Bool). polynomialTests p ++ wrongCount mostCoefficients (length cs) ⇒ 3 ∷ anyTooLarge p cs ⇒ 4 ∷ b ⇒ 5 ∷ []) (zero-test-pad cs n)
 
   pub zeros-above : solveAnswer p more ≡ solveAnswer p cs
   zeros-above =
@@ -60,7 +58,7 @@ module _ (p : ℕ) (cs : List ℕ) (z : refusal (equationTests p cs) ≡ 0) wher
   abbrev rs : List ℕ
   rs = rootsOf m p cs
 
-  P : Passed m p cs
+  P : Passed p cs
   P = equation-passed p cs z
 
   F : Field m p

@@ -1,12 +1,9 @@
 -- Any two answers that a promise permits are the same one (`one-roots`, `one-built`): an answer is got back from what it stands for. Assumes
 -- nothing.
-use mathlib.Core.Path.{◌≡◌, refl, ap, ap₂}
-use mathlib.Core.List.{List}
+use mathlib.Core.Path.{◌≡◌, refl, ap}
 use Prim.Native.Nat.{ℕ}
-use Rattle.refusal.specs.Outcome.{Outcome, turnedDown, gives}
-use Rattle.refusal.proofs.Outcome.{one-by-back}
-use Rattle.field.specs.declared.Element.{Element}
-use Rattle.field.proofs.Elements.{asElements, elements-back}
+use Rattle.field.specs.Refusal.{Outcome, turnedDown, gives}
+use Rattle.field.proofs.Unique.{one-by-back}
 use Rattle.roots.specs.Calls.{Answer, Built}
 use Rattle.roots.specs.Answers.{ofRootCount, ofRoots, ofBuilding, ofBuilt}
 use Rattle.roots.specs.declared.RootCount.{RootCount}
@@ -29,12 +26,10 @@ pub one-roots : (r s : RootsAnswer) → ofRoots r ≡ ofRoots s → r ≡ s
 one-roots = one-by-back ofRoots back same
   where
     back : Answer → RootsAnswer
-    back a = record { count = countBack a.says; roots = asElements a.roots; multiplicities = a.multiplicities }
+    back a = record { count = countBack a.says; roots = a.roots; multiplicities = a.multiplicities }
 
     same : (r : RootsAnswer) → back (ofRoots r) ≡ r
-    same r =
-        ap₂ (λ (x : RootCount) (l : List Element). record { count = x; roots = l; multiplicities = r.multiplicities }) (count_same r.count)
-        (elements-back r.roots)
+    same r = ap (λ (x : RootCount). record { count = x; roots = r.roots; multiplicities = r.multiplicities }) (count_same r.count)
 
 buildingBack : Outcome (Unit {0}) → Building
 buildingBack (turnedDown n) = building.TurnedDown n

@@ -12,14 +12,14 @@ use lib.Pow.{pow_pos}
 use Rattle.algebra.specs.Lists.{padded}
 use Rattle.algebra.proofs.Onto.{map-alike}
 use Rattle.algebra.proofs.Search.{every-below, every-at, same_test, same-no}
+use Rattle.binary.specs.Factor.{degreeOf}
 use Rattle.galois.specs.Field.{Field}
 use Rattle.galois.specs.Polynomial.{Coeffs, AllZero}
 use Rattle.galois.specs.Roots.{rootsOf}
 use Rattle.galois.specs.Multiplicity.{multiplicity}
 use Rattle.galois.proofs.Padding.{roots-pad, multiplicity-pad, coeffs-pad, coeffs-front, pad-zero, zero-pad}
 use Rattle.galois.proofs.Polynomial.{zero-at, zero_of}
-use Rattle.refusal.specs.Outcome.{gives}
-use Rattle.field.specs.Tests.{anyTooLarge}
+use Rattle.field.specs.Refusal.{gives, anyTooLarge}
 use Rattle.field.proofs.Coefficients.{coefficients-small, coefficients-pass}
 use Rattle.roots.specs.Limits.{mostRoots}
 use Rattle.roots.specs.Calls.{allZero, solved}
@@ -37,11 +37,11 @@ not-all-zero f e z = false≢true (sym e ∙ (all-zero-iff f).1 z)
 pub nonzero-passes : (f : List ℕ) → (AllZero f → ⊥) → allZero f ≡ false
 nonzero-passes f n = same_test (allZero f) false (λ e. absurd (n ((all-zero-iff f).0 e)), λ e. absurd (false≢true e))
 
-pub large-pad : (m : ℕ) (f : List ℕ) (n : ℕ) → anyTooLarge m (f ++ replicate n 0) ≡ anyTooLarge m f
-large-pad m f n =
-    same-no (anyTooLarge m (f ++ replicate n 0)) (anyTooLarge m f) (
-      λ e. coefficients-pass m f (coeffs-front m f n (coefficients-small m (f ++ replicate n 0) e)),
-      λ e. coefficients-pass m (f ++ replicate n 0) (coeffs-pad m f n (coefficients-small m f e)),
+pub large-pad : (p : ℕ) (f : List ℕ) (n : ℕ) → anyTooLarge p (f ++ replicate n 0) ≡ anyTooLarge p f
+large-pad p f n =
+    same-no (anyTooLarge p (f ++ replicate n 0)) (anyTooLarge p f) (
+      λ e. coefficients-pass p f (coeffs-front (degreeOf p) f n (coefficients-small p (f ++ replicate n 0) e)),
+      λ e. coefficients-pass p (f ++ replicate n 0) (coeffs-pad (degreeOf p) f n (coefficients-small p f e)),
     )
 
 pub zero-test-pad : (f : List ℕ) (n : ℕ) → allZero (f ++ replicate n 0) ≡ allZero f
@@ -61,9 +61,9 @@ solved-pad m p F f n z =
     (map-alike (λ r. multiplicity p r (f ++ replicate n 0)) (λ r. multiplicity p r f) rs (λ r k. multiplicity-pad m p F r n f z))
 
 -- 4 and 5 never meet: a coefficient that is too large is not 0
-pub large-not-zero : (m : ℕ) (f : List ℕ) → anyTooLarge m f ≡ true → allZero f ≡ false
-large-not-zero m f e =
-    nonzero-passes f (λ z. false≢true (sym (coefficients-pass m f (zero-coeffs m f z)) ∙ e))
+pub large-not-zero : (p : ℕ) (f : List ℕ) → anyTooLarge p f ≡ true → allZero f ≡ false
+large-not-zero p f e =
+    nonzero-passes f (λ z. false≢true (sym (coefficients-pass p f (zero-coeffs (degreeOf p) f z)) ∙ e))
   where
     zero-coeffs : (m : ℕ) (g : List ℕ) → AllZero g → Coeffs m g
     zero-coeffs m [] z = tt

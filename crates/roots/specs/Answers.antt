@@ -1,7 +1,6 @@
 -- The number and the values that each case of each answer stands for (01, "Numbers a call is turned down by"). Assumes nothing.
 use Rattle.std.specs.Prelude.{ℕ}
-use Rattle.refusal.specs.Outcome.{Outcome, turnedDown, gives}
-use Rattle.field.specs.Elements.{asNumbers}
+use Rattle.field.specs.Refusal.{Outcome, turnedDown, gives}
 use Rattle.roots.specs.Calls.{Answer, Built}
 use Rattle.roots.specs.declared.RootCount.{RootCount}
 use Rattle.roots.specs.declared.RootCount.TheVariants as count
@@ -15,7 +14,7 @@ ofRootCount (count.TurnedDown n) = turnedDown n
 ofRootCount (count.Solved k) = gives k
 
 abbrev pub ofRoots : RootsAnswer → Answer
-ofRoots a = record { says = ofRootCount a.count; roots = asNumbers a.roots; multiplicities = a.multiplicities }
+ofRoots a = record { says = ofRootCount a.count; roots = a.roots; multiplicities = a.multiplicities }
 
 abbrev pub ofBuilding : Building → Outcome (Unit {0})
 ofBuilding (building.TurnedDown n) = turnedDown n

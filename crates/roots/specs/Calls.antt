@@ -7,22 +7,16 @@ use Rattle.binary.specs.Factor.{degreeOf}
 use Rattle.galois.specs.Polynomial.{build}
 use Rattle.galois.specs.Roots.{rootsOf}
 use Rattle.galois.specs.Multiplicity.{multiplicity}
-use Rattle.refusal.specs.Tests.{Test, ◌⇒◌, refusal}
-use Rattle.refusal.specs.Outcome.{Outcome, turnedDown, gives, answerBy}
-use Rattle.field.specs.Tests.{polynomialTests, wrongCount, listTests}
+use Rattle.field.specs.Refusal.{Test, ◌⇒◌, refusal, Outcome, turnedDown, gives, answerBy, polynomialTests, wrongCount, listTests}
 use Rattle.roots.specs.Limits.{mostCoefficients, mostRoots}
 
 -- 5: "degree-4 call with every coefficient 0"
 unfoldable pub allZero : List ℕ → Bool
 allZero cs = everyBelow (λ i. eqb (get_or cs i 0) 0) (length cs)
 
--- in a field of degree m, before it 3: "coefficient count 0 or above 5", and 4: "an element or coefficient is 2^m or more"
-abbrev pub testsInField : ℕ → List ℕ → List Test
-testsInField m cs = listTests m (wrongCount mostCoefficients (length cs)) cs ++ allZero cs ⇒ 5 ∷ []
-
--- the field polynomial comes first
+-- before it 3: "coefficient count 0 or above 5", and 4: "an element or coefficient is 2^m or more"
 abbrev pub equationTests : ℕ → List ℕ → List Test
-equationTests p cs = polynomialTests p ++ testsInField (degreeOf p) cs
+equationTests p cs = polynomialTests p ++ listTests p (wrongCount mostCoefficients (length cs)) cs ++ allZero cs ⇒ 5 ∷ []
 
 -- "the answer says turned down with its number, or solved with its count 0 to 4. Beside it stand four places for roots and four for
 -- multiplicities"
@@ -47,16 +41,9 @@ refusedAnswer n = record { says = turnedDown n; roots = replicate mostRoots 0; m
 abbrev pub solveAnswer : ℕ → List ℕ → Answer
 solveAnswer p cs = answerBy (refusal (equationTests p cs)) refusedAnswer (solved p cs (rootsOf (degreeOf p) p cs))
 
--- the same in a field of degree m whose polynomial p has passed its tests
-abbrev pub solveInField : ℕ → ℕ → List ℕ → Answer
-solveInField m p cs = answerBy (refusal (testsInField m cs)) refusedAnswer (solved p cs (rootsOf m p cs))
-
--- in a field of degree m, 3: "more than 4 roots to build from", then 4
-abbrev pub buildTestsInField : ℕ → List ℕ → List Test
-buildTestsInField m rs = listTests m (ltb mostRoots (length rs)) rs
-
+-- 3: "more than 4 roots to build from", then 4
 abbrev pub buildTests : ℕ → List ℕ → List Test
-buildTests p rs = polynomialTests p ++ buildTestsInField (degreeOf p) rs
+buildTests p rs = polynomialTests p ++ listTests p (ltb mostRoots (length rs)) rs
 
 -- turned down with its number, or built; and the five coefficients
 pub record Built : Type 0 where
@@ -72,6 +59,3 @@ refusedBuilt n = record { says = turnedDown n; coefficients = replicate mostCoef
 
 abbrev pub buildAnswer : ℕ → List ℕ → Built
 buildAnswer p rs = answerBy (refusal (buildTests p rs)) refusedBuilt (built p rs)
-
-abbrev pub buildInField : ℕ → ℕ → List ℕ → Built
-buildInField m p rs = answerBy (refusal (buildTestsInField m rs)) refusedBuilt (built p rs)

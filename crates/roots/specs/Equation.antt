@@ -2,11 +2,11 @@
 use Rattle.std.specs.Prelude.{◌↔◌, Bool, true, false, List, [], ◌∷◌, ℕ, ◌-◌, ◌^◌, ◌≤◌, ◌<◌, eqb}
 use Rattle.algebra.specs.Lists.{Member, Nodup}
 use Rattle.binary.specs.Xor.{◌⊕◌}
+use Rattle.linear.specs.Limits.{places}
 use Rattle.galois.specs.Power.{power}
 use Rattle.galois.specs.Polynomial.{Coeffs, AllZero, Root}
 use Rattle.arithmetic.specs.Modulus.{FieldModulus}
-use Rattle.affine.specs.Limits.{places}
-use Rattle.galois.specs.Quotient.{quotient_of}
+use Rattle.arithmetic.specs.Quotient.{quotient_of}
 
 -- the field, and coefficients in it, not all 0
 pub record Ready (m p : ℕ) (f : List ℕ) : Type 0 where

@@ -1,5 +1,5 @@
-// Equations of degree up to 4 over GF(2^m): the public calls. Each takes the field polynomial, tests it, and goes on in that field
-// (inner::in_field); none asks anything of its caller, and each answers by its definition in specs/Calls, for every input.
+// Equations of degree up to 4 over GF(2^m): the public calls. Each takes the field polynomial and tests its input; none asks anything of its
+// caller, and each answers by its definition in specs/Calls, for every input.
 ghost use Rattle.std.specs.Prelude.{◌≡◌};
 ghost use Rattle.roots.specs.Answers.{ofRoots, ofBuilt};
 ghost use Rattle.roots.specs.Calls.{solveAnswer, buildAnswer};
@@ -7,10 +7,10 @@ ghost use Rattle.roots.specs.Calls.{solveAnswer, buildAnswer};
 pub mod inner;
 pub mod limits;
 
-use crate::inner::{answer, in_field};
+use crate::inner::solved::solved;
+use crate::inner::{building, equation};
 use crate::limits::{MOST_COEFFICIENTS, MOST_ROOTS};
-use field::Element;
-use field::inner::tests::{degree_of, of_polynomial};
+use field::inner::refusal::degree_of;
 
 // Turned down by its number, or solved with the number of different roots.
 #[derive(Drop)]
@@ -23,7 +23,7 @@ pub enum RootCount {
 #[derive(Drop)]
 pub struct RootsAnswer {
     pub count: RootCount,
-    pub roots: [Element; MOST_ROOTS],
+    pub roots: [u32; MOST_ROOTS],
     pub multiplicities: [u32; MOST_ROOTS],
 }
 
@@ -45,20 +45,31 @@ pub struct BuiltAnswer {
 pub fn solve(p: u32, coefficients: &[u32]) -> RootsAnswer
     ensures { ofRoots result ≡ solveAnswer p coefficients.now }
 {
-    let refused = of_polynomial(p);
+    let refused = equation::refusal(p, coefficients);
     if refused != 0 {
-        return answer::turned_down(refused);
+        return RootsAnswer {
+            count: RootCount::TurnedDown(refused),
+            roots: [0; MOST_ROOTS],
+            multiplicities: [0; MOST_ROOTS],
+        };
     }
-    in_field::solve(p, degree_of(p), coefficients)
+    solved(p, coefficients)
 }
 
 // The coefficients of the product of all (x + r), constant first.
 pub fn build(p: u32, roots: &[u32]) -> BuiltAnswer
     ensures { ofBuilt result ≡ buildAnswer p roots.now }
 {
-    let refused = of_polynomial(p);
+    let refused = building::refusal(p, roots);
     if refused != 0 {
-        return answer::not_built(refused);
+        return BuiltAnswer {
+            building: Building::TurnedDown(refused),
+            coefficients: [0; MOST_COEFFICIENTS],
+        };
     }
-    in_field::build(p, degree_of(p), roots)
+    let m = degree_of(p);
+    BuiltAnswer {
+        building: Building::Built,
+        coefficients: building::built(p, m, roots),
+    }
 }

@@ -31,8 +31,7 @@ pub fn solve_agrees(p: u32, coefficients: &[u32], number: u32, found: Found) -> 
     if !count_agrees(count, number, found.count) {
         return false;
     }
-    let numbers = [said[0].0, said[1].0, said[2].0, said[3].0];
-    if !same(&numbers, &expected) {
+    if !same(&said, &expected) {
         return false;
     }
     same(&often, &multiplicities)

@@ -14,7 +14,7 @@ use Rattle.galois.specs.Multiplicity.{multiplicityUpTo, multiplicity}
 use Rattle.galois.specs.Affine.{linearAt, affineAt}
 use Rattle.linear.specs.Directions.{smallestAt, inFront, directionsFrom}
 use Rattle.linear.specs.Solution.{placed}
-use Rattle.field.specs.Tests.{outOfRange, hasFactor, tooLarge, anyTooLarge, wrongCount}
+use Rattle.field.specs.Refusal.{outOfRange, hasFactor, tooLarge, anyTooLarge, wrongCount}
 use Rattle.affine.specs.Equation as affine
 use Rattle.roots.specs.Calls.{allZero}
 use Rattle.frames.specs.Frame.{digitValue, byte_at, coefficientsOf, anotherCharacter, anotherKind, disagrees}

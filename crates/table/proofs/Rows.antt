@@ -9,7 +9,7 @@ use Rattle.binary.specs.Times.{times, timesStep}
 use Rattle.binary.specs.Remainder.{top, topStep, reduce, remainderStep, remainderBy, remainder}
 use Rattle.binary.specs.Product.{product}
 use Rattle.binary.specs.Factor.{degreeOf, factorFree}
-use Rattle.galois.specs.Power.{power, squares, powerOf}
+use Rattle.galois.specs.Power.{power, squares}
 use Rattle.galois.specs.Trace.{partTrace}
 use Rattle.galois.specs.Polynomial.{value, sums, withoutRoot}
 use Rattle.galois.specs.Roots.{isRoot, rootsOf}
@@ -17,9 +17,10 @@ use Rattle.galois.specs.Multiplicity.{multiplicityUpTo, multiplicity}
 use Rattle.galois.specs.Affine.{linearAt, affineAt}
 use Rattle.linear.specs.Directions.{smallestAt, inFront, directionsFrom}
 use Rattle.linear.specs.Solution.{placed}
-use Rattle.galois.specs.Quotient.{quotient_of}
-use Rattle.galois.specs.Number.{numbered, number_of}
-use Rattle.field.specs.Tests.{outOfRange, hasFactor, tooLarge, anyTooLarge, wrongCount}
+use Rattle.arithmetic.specs.Quotient.{quotient_of}
+use Rattle.arithmetic.specs.Power.{powerOf}
+use Rattle.arithmetic.specs.Number.{numbered, number_of}
+use Rattle.field.specs.Refusal.{outOfRange, hasFactor, tooLarge, anyTooLarge, wrongCount}
 use Rattle.affine.specs.Equation as affine
 use Rattle.roots.specs.Calls.{allZero}
 use Rattle.table.specs.Rows.{answer_of, starredRows}

@@ -2,8 +2,8 @@
 -- `answer_of` is what the definitions that the promises cite say to a call. Assumes nothing.
 use Rattle.std.specs.Prelude.{true, List, [], ◌∷◌, map, ℕ, ℤ, negsuc, length}
 use Rattle.algebra.specs.Lists.{padded}
-use Rattle.affine.specs.Limits.{places}
-use Rattle.refusal.specs.Outcome.{Outcome, gives}
+use Rattle.linear.specs.Limits.{places}
+use Rattle.field.specs.Refusal.{Outcome, gives}
 use Rattle.field.specs.Calls.{powerOutcome, traceOutcome, numberOutcome}
 use Rattle.affine.specs.Calls as affine
 use Rattle.roots.specs.Limits.{mostRoots}

@@ -1,6 +1,6 @@
 -- How many roots an answer has. Assumes nothing.
 use Rattle.std.specs.Prelude.{ℕ}
-use Rattle.refusal.specs.Outcome.{Outcome, turnedDown, gives}
+use Rattle.field.specs.Refusal.{Outcome, turnedDown, gives}
 
 abbrev pub countOf : Outcome ℕ → ℕ
 countOf (turnedDown n) = 0

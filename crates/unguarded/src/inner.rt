@@ -3,22 +3,18 @@ ghost use Rattle.std.specs.Prelude.{◌≡◌, ◌^◌, ◌<◌, length};
 ghost use Rattle.binary.specs.Product.{product, Modulus};
 ghost use Rattle.binary.specs.Factor.{factorFree};
 ghost use Rattle.arithmetic.specs.Modulus.{FieldModulus};
-ghost use Rattle.galois.specs.Quotient.{quotient_of};
-ghost use Rattle.refusal.specs.Tests.{refusal};
-ghost use Rattle.galois.specs.Roots.{rootsOf};
-ghost use Rattle.field.specs.Accepted.{AcceptedAs};
+ghost use Rattle.arithmetic.specs.Quotient.{quotient_of};
+ghost use Rattle.field.specs.Refusal.{refusal};
 ghost use Rattle.roots.specs.Limits.{mostRoots};
 ghost use Rattle.roots.specs.Answers.{ofRootCount};
-ghost use Rattle.roots.specs.Calls.{testsInField, solved};
+ghost use Rattle.roots.specs.Calls.{equationTests, solveAnswer};
 ghost use Rattle.unguarded.specs.Count.{countOf};
 
 use arithmetic::inner::inverse;
 use binary::inner::{factor, modulo};
 use firmware::inner::lent::put_all;
 use roots::RootCount;
-use roots::inner::elements::as_numbers;
 use roots::inner::solved::solved;
-use roots::limits::MOST_ROOTS;
 
 #[unsafe(no_mangle)]
 pub extern "C" fn unguarded_factor_free(p: u32, m: u32) -> bool
@@ -54,41 +50,25 @@ fn count_of(count: RootCount) -> u32
     }
 }
 
-// Lists of four take the values of four places.
-fn put_both(
-    found: [u32; MOST_ROOTS],
-    often: [u32; MOST_ROOTS],
-    roots: &mut [u32],
-    multiplicities: &mut [u32],
-)
-    requires { (length roots.old ≡ mostRoots) × (length multiplicities.old ≡ mostRoots) }
-    ensures roots_after { roots.new ≡ found }
-    ensures multiplicities_after { multiplicities.new ≡ often }
-{
-    put_all(&found, roots);
-    put_all(&often, multiplicities);
-}
-
 // The number of roots. The roots and their multiplicities stand in lists of four.
 #[unsafe(no_mangle)]
 pub extern "C" fn unguarded_solve(
     p: u32,
-    m: u32,
     coefficients: &[u32],
     roots: &mut [u32],
     multiplicities: &mut [u32],
 ) -> u32
-    requires accepted_as { AcceptedAs m p × (refusal (testsInField m coefficients.now) ≡ 0) }
+    requires coefficients_value { refusal (equationTests p coefficients.now) ≡ 0 }
     requires roots_len { (length roots.old ≡ mostRoots) × (length multiplicities.old ≡ mostRoots) }
-    ensures value { result ≡ length (rootsOf m p coefficients.now) }
-    ensures roots_after { roots.new ≡ (solved p coefficients.now (rootsOf m p coefficients.now)).roots }
-    ensures multiplicities_after { multiplicities.new ≡ (solved p coefficients.now (rootsOf m p coefficients.now)).multiplicities }
+    ensures value { result ≡ countOf (solveAnswer p coefficients.now).says }
+    ensures roots_after { roots.new ≡ (solveAnswer p coefficients.now).roots }
+    ensures multiplicities_after { multiplicities.new ≡ (solveAnswer p coefficients.now).multiplicities }
 {
-    let answer = solved(p, m, coefficients);
+    let answer = solved(p, coefficients);
     let count = answer.count;
-    let elements = answer.roots;
-    let found = as_numbers(elements);
+    let found = answer.roots;
     let often = answer.multiplicities;
-    put_both(found, often, roots, multiplicities);
+    put_all(&found, roots);
+    put_all(&often, multiplicities);
     count_of(count)
 }

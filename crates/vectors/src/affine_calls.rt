@@ -1,9 +1,7 @@
 // The calls of `affine`, each with its answer written.
 use crate::print::MALFORMED;
 use crate::{print, said};
-use affine::limits::PLACES;
 use affine::{CountAnswer, RootSpace};
-use field::Element;
 
 // How many entries a row can lend at most, and what they hold before the call.
 const LENT: usize = 20;
@@ -38,18 +36,12 @@ fn space_said(space: RootSpace, base: u32) -> usize {
     }
 }
 
-fn directions_said(directions: [Element; PLACES], used: usize) {
-    for i in 0..PLACES {
-        print::place(directions[i].0, i < used);
-    }
-}
-
 pub fn solve(p: u32, coefficients: &[u32]) {
     let answer = affine::solve(p, coefficients);
     let space = answer.space;
     let base = answer.base;
     let directions = answer.directions;
-    directions_said(directions, space_said(space, base.0));
+    print::places(&directions, space_said(space, base.0));
 }
 
 pub fn place(p: u32, n: u32, coefficients: &[u32]) {

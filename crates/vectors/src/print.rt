@@ -31,7 +31,7 @@ pub fn unused(n: u32) {
     number(n);
 }
 
-pub fn place(n: u32, used: bool) {
+fn place(n: u32, used: bool) {
     if used {
         number(n);
         return;

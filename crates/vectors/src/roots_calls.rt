@@ -1,6 +1,5 @@
 // The calls of `roots`, each with its answer written.
 use crate::print;
-use field::Element;
 use roots::limits::{MOST_COEFFICIENTS, MOST_ROOTS};
 use roots::{Building, RootCount};
 
@@ -34,9 +33,9 @@ fn root(r: u32, k: u32, used: bool) {
     print::unused(k);
 }
 
-fn roots_said(roots: [Element; MOST_ROOTS], multiplicities: [u32; MOST_ROOTS], used: usize) {
+fn roots_said(roots: [u32; MOST_ROOTS], multiplicities: [u32; MOST_ROOTS], used: usize) {
     for i in 0..MOST_ROOTS {
-        root(roots[i].0, multiplicities[i], i < used);
+        root(roots[i], multiplicities[i], i < used);
     }
 }
 

@@ -1,60 +1,105 @@
--- `list_roots` meets its contract: what it says, and what it leaves in the list. Assumes nothing.
-use mathlib.Core.Path.{sym, ◌∙◌}
+-- `list_roots` meets its contract. Assumes nothing.
+use mathlib.Core.Path.{sym, ap₂, ◌∙◌}
+use mathlib.Core.Logic.{◌≢◌}
+use mathlib.Core.List.{List, ◌++◌}
+use Prim.Native.Nat.{ℕ, ◌<◌}
+use lib.ListN.{drop}
+use native.Mathlib.Omega.{arith}
 use borrow.Author.Rules.{rules}
-use lib.ListN.{length}
-use Rattle.refusal.specs.Outcome.{turnedDown, gives}
-use Rattle.binary.specs.Factor.{degreeOf}
-use Rattle.field.proofs.Tests.{accepted}
-use Rattle.field.proofs.InField.{polynomial-down, in_field}
-use Rattle.affine.specs.Equation.{allRoots}
-use Rattle.affine.specs.Calls.{listingTestsInField, atFront}
+use Rattle.affine.proofs.Tests.{equation-ready}
+use Rattle.affine.proofs.Found.{count_fits, count-is, listing-is, listing-count, listing-ready}
+use Rattle.affine.proofs.Listing.{listing-refused, listing-short, listing_none, listing-done}
 use Rattle.affine.proofs.list_roots.Statement.{statement}
 use Rattle.affine.proofs.list_roots.Tie as tie
 
-of-polynomial-requires : tie.Need-of-polynomial-requires
-of-polynomial-requires c κs = search rules
+refusal-requires : tie.Need-refusal-requires
+refusal-requires c κs = search rules
+
+pos : {n : ℕ} → n ≢ 0 → 0 < n
+pos h = omega arith
 
 returns : tie.Need-returns
 returns c =
-    let tested = c.before in
-    let a = tested.before.before.before.args in
-    let list = a.list.now in
-    let us = listingTestsInField (degreeOf a.p) a.p a.coefficients.now (length list) in
-    let e = tested.of-polynomial.ensures in
-    let n = c.if1.true in
-    (polynomial-down turnedDown a.p _ e us _ n, polynomial-down (λ k. list) a.p _ e us _ n)
+    let a = c.before.before.before.before.args in
+    listing-refused a.p a.coefficients.now a.list.now _ c.before.refusal.ensures c.if1.true
 
-degree-of-requires : tie.Need-degree-of-requires
-degree-of-requires c κs = accepted _ (sym c.before.of-polynomial.ensures ∙ c.if1.false)
+solution-requires : tie.Need-solution-requires
+solution-requires c κs =
+    let a = c.before.before.before.before.args in
+    equation-ready a.p a.coefficients.now (sym c.before.refusal.ensures ∙ c.if1.false)
 
-list-roots-requires : tie.Need-list-roots-requires
-list-roots-requires c κs = search rules
+root-count-requires : tie.Need-root-count-requires
+root-count-requires c κs =
+    let a = c.before.before.before.before.before.args in
+    count_fits a.p a.coefficients.now _ c.solution.ensures (equation-ready a.p a.coefficients.now (sym c.before.before.refusal.ensures ∙ c.before.if1.false))
+
+cast-if2 : tie.Need-overflow-cast-if2
+cast-if2 c = search rules
+
+returns-2 : tie.Need-returns-2
+returns-2 c =
+    let a = c.before.before.before.before.before.before.before.args in
+    let cs = a.coefficients.now in
+    let e = c.before.before.before.before.refusal.ensures in
+    let z = c.before.before.before.if1.false in
+    let s = c.before.before.solution.ensures in
+    let k = c.before.root-count.ensures in
+    let n = k ∙ count-is a.p cs _ s (equation-ready a.p cs (sym e ∙ z)) in
+    listing-short a.p cs a.list.now _ e z (rw n at c.if2.true)
+
+returns-3 : tie.Need-returns-3
+returns-3 c =
+    let a = c.before.before.before.before.before.before.before.before.args in
+    let cs = a.coefficients.now in
+    let e = c.before.before.before.before.before.refusal.ensures in
+    let z = c.before.before.before.before.if1.false in
+    let s = c.before.before.before.solution.ensures in
+    let k = c.before.before.root-count.ensures in
+    let n = k ∙ count-is a.p cs _ s (equation-ready a.p cs (sym e ∙ z)) in
+    listing_none a.p cs a.list.now _ e z (sym n ∙ c.if3.true)
+
+list-all-requires : tie.Need-list-all-requires
+list-all-requires c κs =
+    let a = c.before.before.before.before.before.before.before.before.before.before.args in
+    let cs = a.coefficients.now in
+    let e = c.before.before.before.before.before.before.before.refusal.ensures in
+    let z = c.before.before.before.before.before.before.if1.false in
+    let s = c.before.before.before.before.before.solution.ensures in
+    let k = c.before.before.before.before.root-count.ensures in
+    let n = k ∙ count-is a.p cs _ s (equation-ready a.p cs (sym e ∙ z)) in
+    let some = rw k at (pos c.before.before.if3.false) in
+    let q = listing-ready a.p cs _ s (equation-ready a.p cs (sym e ∙ z)) 0 some in
+    let m = listing-count a.p cs _ s (equation-ready a.p cs (sym e ∙ z)) 0 some in
+    (count_fits a.p cs _ s (equation-ready a.p cs (sym e ∙ z)), rw m (rw n at c.before.before.before.if2.false), q.0, q.1)
 
 same_length : tie.Need-same-length
 same_length c = search rules
 
-returns-2 : tie.Need-returns-2
-returns-2 c =
-    let listed = c.before.before in
-    let field = listed.before.before in
-    let tested = field.before.before in
-    let a = tested.before.before.before.args in
+returns-4 : tie.Need-returns-4
+returns-4 c =
+    let a = c.before.before.before.before.before.before.before.before.before.before.before.before.before.args in
     let cs = a.coefficients.now in
-    let list = a.list.now in
-    let e = tested.of-polynomial.ensures in
-    let d = field.degree-of.ensures.0 in
-    let z = field.before.if1.false in (
-      listed.list-roots.ensures.0 ∙ in_field turnedDown a.p _ e (λ m. listingTestsInField m a.p cs (length list)) (λ m. gives (length (allRoots m a.p cs))) _ d z,
-      listed.list-roots.ensures.1 ∙ in_field (λ k. list) a.p _ e (λ m. listingTestsInField m a.p cs (length list)) (λ m. atFront (allRoots m a.p cs) list) _ d z,
-    )
+    let e = c.before.before.before.before.before.before.before.before.before.before.refusal.ensures in
+    let z = c.before.before.before.before.before.before.before.before.before.if1.false in
+    let s = c.before.before.before.before.before.before.before.before.solution.ensures in
+    let k = c.before.before.before.before.before.before.before.root-count.ensures in
+    let n = k ∙ count-is a.p cs _ s (equation-ready a.p cs (sym e ∙ z)) in
+    let some = rw k at (pos c.before.before.before.before.before.if3.false) in
+    let m = listing-count a.p cs _ s (equation-ready a.p cs (sym e ∙ z)) 0 some in
+    listing-done a.p cs a.list.now _ e z (rw n at c.before.before.before.before.before.before.if2.false) _ _ n
+    (c.before.before.list_all.ensures ∙ ap₂ (λ (l : List ℕ) (j : ℕ). l ++ drop j a.list.now) (listing-is a.p cs _ s (equation-ready a.p cs (sym e ∙ z)) 0 some) m)
 
 pub list-roots-spec : {M : Type 1} → statement M
 list-roots-spec =
     tie.close
     (tie.spec
-    of-polynomial-requires
+    refusal-requires
     returns
-    degree-of-requires
-    list-roots-requires
+    solution-requires
+    root-count-requires
+    cast-if2
+    returns-2
+    returns-3
+    list-all-requires
     same_length
-    returns-2)
+    returns-4)

@@ -1,46 +1,73 @@
 -- `root_at_place` meets its contract. Assumes nothing.
 use mathlib.Core.Path.{sym, ◌∙◌}
+use mathlib.Core.List.{[], ◌∷◌}
+use native.Mathlib.Omega.{arith}
 use borrow.Author.Rules.{rules}
-use Rattle.refusal.specs.Outcome.{turnedDown, gives}
+use borrow.Author.Tests.{le-leb, lt-leb}
+use lib.Dec.{leb}
+use lib.ListN.{length}
 use Rattle.binary.specs.Factor.{degreeOf}
-use Rattle.field.proofs.Tests.{accepted}
-use Rattle.field.proofs.InField.{polynomial-down, in_field}
-use Rattle.affine.specs.Equation.{rootAt}
-use Rattle.affine.specs.Calls.{placeTestsInField}
+use Rattle.field.specs.Refusal.{◌⇒◌}
+use Rattle.field.proofs.Refusal.{down-first, down-last, given-last}
+use Rattle.affine.specs.Equation.{allRoots}
+use Rattle.affine.specs.Calls.{equationTests}
+use Rattle.affine.proofs.Tests.{equation-ready}
+use Rattle.affine.proofs.Found.{count_fits, count-is, place_is}
 use Rattle.affine.proofs.root_at_place.Statement.{statement}
 use Rattle.affine.proofs.root_at_place.Tie as tie
 
-of-polynomial-requires : tie.Need-of-polynomial-requires
-of-polynomial-requires c κs = search rules
+refusal-requires : tie.Need-refusal-requires
+refusal-requires c κs = search rules
 
 returns : tie.Need-returns
 returns c =
-    let tested = c.before in
-    let a = tested.before.before.args in
-    polynomial-down turnedDown a.p _ tested.of-polynomial.ensures (placeTestsInField (degreeOf a.p) a.p a.coefficients.now a.n) _ c.if1.true
+    let a = c.before.before.before.args in
+    let cs = a.coefficients.now in
+    down-first _ _ (equationTests a.p cs) (leb (length (allRoots (degreeOf a.p) a.p cs)) a.n ⇒ 7 ∷ []) c.before.refusal.ensures c.if1.true
 
-degree-of-requires : tie.Need-degree-of-requires
-degree-of-requires c κs = accepted _ (sym c.before.of-polynomial.ensures ∙ c.if1.false)
+solution-requires : tie.Need-solution-requires
+solution-requires c κs =
+    let a = c.before.before.before.args in
+    equation-ready a.p a.coefficients.now (sym c.before.refusal.ensures ∙ c.if1.false)
 
-root-at-place-requires : tie.Need-root-at-place-requires
-root-at-place-requires c κs = search rules
+root-count-requires : tie.Need-root-count-requires
+root-count-requires c κs =
+    let a = c.before.before.before.before.args in
+    count_fits a.p a.coefficients.now _ c.solution.ensures (equation-ready a.p a.coefficients.now (sym c.before.before.refusal.ensures ∙ c.before.if1.false))
 
 returns-2 : tie.Need-returns-2
 returns-2 c =
-    let field = c.before in
-    let tested = field.before.before in
-    let a = tested.before.before.args in
+    let a = c.before.before.before.before.before.before.args in
     let cs = a.coefficients.now in
-    c.root-at-place.ensures
-    ∙ in_field turnedDown a.p _ tested.of-polynomial.ensures (λ m. placeTestsInField m a.p cs a.n) (λ m. gives (rootAt m a.p cs a.n)) _
-    field.degree-of.ensures.0 field.before.if1.false
+    let e = c.before.before.before.before.refusal.ensures in
+    let z = c.before.before.before.if1.false in
+    let n = c.before.root-count.ensures ∙ count-is a.p cs _ c.before.before.solution.ensures (equation-ready a.p cs (sym e ∙ z)) in
+    down-last _ _ 7 (leb (length (allRoots (degreeOf a.p) a.p cs)) a.n) (equationTests a.p cs) tt e z
+    (le-leb (length (allRoots (degreeOf a.p) a.p cs)) a.n (omega (arith, n, c.if2.true))) (λ w. omega arith)
+
+place-requires : tie.Need-place-requires
+place-requires c κs = search rules
+
+returns-3 : tie.Need-returns-3
+returns-3 c =
+    let a = c.before.before.before.before.before.before.before.before.args in
+    let cs = a.coefficients.now in
+    let e = c.before.before.before.before.before.before.refusal.ensures in
+    let z = c.before.before.before.before.before.if1.false in
+    let s = c.before.before.before.before.solution.ensures in
+    let q = c.before.before.before.root-count.ensures in
+    let n = q ∙ count-is a.p cs _ s (equation-ready a.p cs (sym e ∙ z)) in
+    given-last _ _ _ 7 (leb (length (allRoots (degreeOf a.p) a.p cs)) a.n) (equationTests a.p cs) tt e z
+    (lt-leb (length (allRoots (degreeOf a.p) a.p cs)) a.n (omega (arith, n, c.before.before.if2.false))) (c.place.ensures ∙ place_is a.p cs _ s (equation-ready a.p cs (sym e ∙ z)) a.n (omega (arith, q, c.before.before.if2.false)))
 
 pub root-at-place-spec : {M : Type 1} → statement M
 root-at-place-spec =
     tie.close
     (tie.spec
-    of-polynomial-requires
+    refusal-requires
     returns
-    degree-of-requires
-    root-at-place-requires
-    returns-2)
+    solution-requires
+    root-count-requires
+    returns-2
+    place-requires
+    returns-3)

@@ -1,32 +1,18 @@
-// Answers: turned down by a number, and what an elimination found.
+// What an elimination found, as the calls answer it.
 ghost use Rattle.std.specs.Prelude.{◌≡◌, ◌≤◌};
-ghost use Rattle.affine.specs.Limits.{places};
-ghost use Rattle.affine.specs.Calls.{refusedAnswer};
+ghost use Rattle.linear.specs.Limits.{places};
 ghost use Rattle.affine.specs.Answers.{ofAffine, answer_of, rootCount};
 
-use crate::inner::elements::as_elements;
-use crate::limits::PLACES;
 use crate::{AffineAnswer, RootSpace};
 use binary::inner::digit::power_of_two;
 use field::Element;
 use linear::inner::solution::Solution;
 
-pub fn turned_down(number: u32) -> AffineAnswer
-    ensures { ofAffine result ≡ refusedAnswer number }
-{
-    AffineAnswer {
-        space: RootSpace::TurnedDown(number),
-        base: Element(0),
-        directions: [Element(0); PLACES],
-    }
-}
-
 pub fn of_solution(s: Solution) -> AffineAnswer
     requires { s.count ≤ places }
     ensures { ofAffine result ≡ answer_of s }
 {
-    let numbers = s.directions;
-    let directions = as_elements(numbers);
+    let directions = s.directions;
     if s.found {
         let k = s.count as u32;
         return AffineAnswer {

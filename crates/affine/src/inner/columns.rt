@@ -5,12 +5,12 @@ ghost use Rattle.binary.specs.Product.{product};
 ghost use Rattle.galois.specs.Power.{power, squares};
 ghost use Rattle.galois.specs.Polynomial.{Coeffs};
 ghost use Rattle.arithmetic.specs.Modulus.{FieldModulus};
-ghost use Rattle.affine.specs.Limits.{places};
+ghost use Rattle.linear.specs.Limits.{places};
 ghost use Rattle.affine.specs.Columns.{IsColumns, PlusTerm};
 
-use crate::limits::PLACES;
 use binary::inner::digit::power_of_two;
 use binary::inner::modulo::{doubled, product};
+use linear::inner::elimination::PLACES;
 
 // From this exponent on one product is less work than the shifts.
 const MANY_SHIFTS: u32 = 4;

@@ -3,7 +3,7 @@ ghost use Rattle.std.specs.Prelude.{◌≡◌, ◌^◌, ◌<◌};
 ghost use Rattle.binary.specs.Product.{product};
 ghost use Rattle.arithmetic.specs.Choice.{lessDigit, chosen_of};
 ghost use Rattle.arithmetic.specs.Modulus.{FieldModulus};
-ghost use Rattle.galois.specs.Quotient.{quotient_of};
+ghost use Rattle.arithmetic.specs.Quotient.{quotient_of};
 
 use binary::inner::digit::{degree, picked};
 use binary::inner::modulo::product;

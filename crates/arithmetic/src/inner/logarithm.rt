@@ -2,7 +2,7 @@
 ghost use Rattle.std.specs.Prelude.{◌≡◌, ◌^◌, ◌<◌};
 ghost use Rattle.binary.specs.Product.{Modulus};
 ghost use Rattle.arithmetic.specs.Modulus.{FieldModulus};
-ghost use Rattle.galois.specs.Number.{number_of, elementOf};
+ghost use Rattle.arithmetic.specs.Number.{number_of, elementOf};
 
 use crate::inner::power::raised;
 use binary::inner::digit::power_of_two;

@@ -2,9 +2,10 @@
 ghost use Rattle.std.specs.Prelude.{◌≡◌, true, ◌^◌, ◌<◌, pos, nat_abs};
 ghost use Rattle.std.specs.Int.Signed.{lt_z};
 ghost use Rattle.binary.specs.Product.{product};
-ghost use Rattle.galois.specs.Power.{power, powerOf};
+ghost use Rattle.galois.specs.Power.{power};
 ghost use Rattle.galois.specs.Trace.{trace};
 ghost use Rattle.arithmetic.specs.Modulus.{FieldModulus};
+ghost use Rattle.arithmetic.specs.Power.{powerOf};
 
 use crate::inner::inverse::inverse;
 use binary::inner::modulo::product;

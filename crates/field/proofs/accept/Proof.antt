@@ -1,9 +1,8 @@
 -- `accept` meets its contract. Assumes nothing.
 use mathlib.Core.Path.{sym, ◌∙◌}
 use borrow.Author.Rules.{rules}
-use Rattle.field.specs.Tests.{polynomialTests}
-use Rattle.refusal.proofs.Outcome.{down, given}
-use Rattle.field.proofs.Tests.{accepted}
+use Rattle.field.specs.Refusal.{polynomialTests}
+use Rattle.field.proofs.Refusal.{down, given, accepted}
 use Rattle.field.proofs.accept.Statement.{statement}
 use Rattle.field.proofs.accept.Tie as tie
 
@@ -18,7 +17,7 @@ degree-of-requires c κs = accepted c.before.before.args.p (sym c.before.of-poly
 
 returns-2 : tie.Need-returns-2
 returns-2 c =
-    given _ _ (polynomialTests c.before.before.before.args.p) (sym c.before.before.of-polynomial.ensures ∙ c.before.if1.false) c.degree-of.ensures.0
+    given _ _ (polynomialTests c.before.before.before.args.p) (sym c.before.before.of-polynomial.ensures ∙ c.before.if1.false) c.degree-of.ensures
 
 pub accept-spec : {M : Type 1} → statement M
 accept-spec = tie.close (tie.spec of-polynomial-requires returns degree-of-requires returns-2)

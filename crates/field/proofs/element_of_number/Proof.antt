@@ -1,9 +1,8 @@
 -- `element_of_number` meets its contract. Assumes nothing.
 use mathlib.Core.Path.{sym, ◌∙◌}
 use borrow.Author.Rules.{rules}
-use Rattle.field.specs.Tests.{elementTests}
-use Rattle.refusal.proofs.Outcome.{down, given}
-use Rattle.field.proofs.Tests.{element-passed}
+use Rattle.field.specs.Refusal.{elementTests}
+use Rattle.field.proofs.Refusal.{down, given, element-passed}
 use Rattle.field.proofs.Ready.{element-ready}
 use Rattle.field.proofs.element_of_number.Statement.{statement}
 use Rattle.field.proofs.element_of_number.Tie as tie
@@ -22,7 +21,7 @@ degree-of-requires c κs =
 element-requires : tie.Need-element-requires
 element-requires c κs =
     let a = c.before.before.before.args in
-    (element-ready c.degree-of.result a.p c.degree-of.ensures.0 a.n.0 _ c.before.before.of-element.ensures c.before.if1.false).0
+    (element-ready c.degree-of.result a.p c.degree-of.ensures a.n.0 _ c.before.before.of-element.ensures c.before.if1.false).0
 
 returns-2 : tie.Need-returns-2
 returns-2 c =

@@ -7,7 +7,7 @@ use lib.Dec.{ltb}
 use borrow.Author.Rules.{rules}
 use borrow.Author.Tests.{lt-ltb, le-ltb}
 use Rattle.field.specs.Limits.{smallestDegree, largestDegree}
-use Rattle.refusal.specs.Outcome.{turnedDown, gives}
+use Rattle.field.specs.Refusal.{turnedDown, gives}
 use Rattle.field.specs.House.{houseEntry}
 use Rattle.field.specs.Calls.{houseOutcome}
 use Rattle.field.proofs.house_polynomial.Statement.{statement}

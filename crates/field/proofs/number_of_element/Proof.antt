@@ -2,10 +2,9 @@
 use mathlib.Core.Path.{sym, ap, ◌∙◌}
 use Prim.Native.Nat.{ℕ}
 use borrow.Author.Rules.{rules}
-use Rattle.galois.specs.Number.{number_of}
-use Rattle.field.specs.Tests.{elementTests}
-use Rattle.refusal.proofs.Outcome.{down, given}
-use Rattle.field.proofs.Tests.{element-passed}
+use Rattle.arithmetic.specs.Number.{number_of}
+use Rattle.field.specs.Refusal.{elementTests}
+use Rattle.field.proofs.Refusal.{down, given, element-passed}
 use Rattle.field.proofs.Ready.{element-ready}
 use Rattle.field.proofs.number_of_element.Statement.{statement}
 use Rattle.field.proofs.number_of_element.Tie as tie
@@ -24,14 +23,14 @@ degree-of-requires c κs =
 number-requires : tie.Need-number-requires
 number-requires c κs =
     let a = c.before.before.before.args in
-    let q = element-ready c.degree-of.result a.p c.degree-of.ensures.0 a.a.0 _ c.before.before.of-element.ensures c.before.if1.false in
+    let q = element-ready c.degree-of.result a.p c.degree-of.ensures a.a.0 _ c.before.before.of-element.ensures c.before.if1.false in
     (q.0.modulus, q.1)
 
 returns-2 : tie.Need-returns-2
 returns-2 c =
     let a = c.before.before.before.before.args in
     given _ _ (elementTests a.p a.a.0) (sym c.before.before.before.of-element.ensures ∙ c.before.before.if1.false)
-    (c.number.ensures ∙ ap (λ (k : ℕ). number_of k a.p a.a.0) c.before.degree-of.ensures.0)
+    (c.number.ensures ∙ ap (λ (k : ℕ). number_of k a.p a.a.0) c.before.degree-of.ensures)
 
 pub number-of-element-spec : {M : Type 1} → statement M
 number-of-element-spec =

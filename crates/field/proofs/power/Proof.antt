@@ -11,11 +11,9 @@ use mir.Syntax.{w32}
 use mir.Val.{SFits}
 use mir.Facts.{to_z-of_z}
 use borrow.Author.Rules.{rules}
-use Rattle.refusal.specs.Tests.{◌⇒◌}
-use Rattle.field.specs.Tests.{elementTests}
-use Rattle.galois.specs.Power.{powerOf}
-use Rattle.refusal.proofs.Outcome.{down-first, down-last, given-last}
-use Rattle.field.proofs.Tests.{element-passed}
+use Rattle.field.specs.Refusal.{◌⇒◌, elementTests}
+use Rattle.arithmetic.specs.Power.{powerOf}
+use Rattle.field.proofs.Refusal.{down-first, down-last, given-last, element-passed}
 use Rattle.field.proofs.Ready.{element-ready}
 use Rattle.field.proofs.power.Statement.{statement}
 use Rattle.field.proofs.power.Tie as tie
@@ -52,7 +50,7 @@ power-requires : tie.Need-power-requires
 power-requires c κs =
     let d = c.before in
     let a = d.before.before.before.before.before.before.args in
-    let q = element-ready d.degree-of.result a.p d.degree-of.ensures.0 a.a.0 _ d.before.before.before.before.before.of-element.ensures
+    let q = element-ready d.degree-of.result a.p d.degree-of.ensures a.a.0 _ d.before.before.before.before.before.of-element.ensures
     d.before.before.before.before.if1.false in
     let f : SFits w32 a.e.0 = search rules in
     (q.0, q.1, rw (to_z-of_z f) (positive a.a.0 a.e.0 _ (rw (to_z-of_z f) at d.before.before.zero-to-negative.ensures) d.before.if2.false))
@@ -64,7 +62,7 @@ returns-3 c =
     let f : SFits w32 a.e.0 = search rules in
     given-last _ _ _ 6 (eqb a.a.0 0 && lt_z a.e.0 (pos 0)) (elementTests a.p a.a.0) tt d.before.before.before.before.before.of-element.ensures
     d.before.before.before.before.if1.false (sym (rw (to_z-of_z f) at d.before.before.zero-to-negative.ensures) ∙ d.before.if2.false)
-    ((rw (to_z-of_z f) at c.power.ensures) ∙ ap (λ (k : ℕ). powerOf k a.p a.a.0 a.e.0) d.degree-of.ensures.0)
+    ((rw (to_z-of_z f) at c.power.ensures) ∙ ap (λ (k : ℕ). powerOf k a.p a.a.0 a.e.0) d.degree-of.ensures)
 
 pub power-spec : {M : Type 1} → statement M
 power-spec =

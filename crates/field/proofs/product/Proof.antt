@@ -1,9 +1,8 @@
 -- `product` meets its contract. Assumes nothing.
 use mathlib.Core.Path.{sym, ◌∙◌}
 use borrow.Author.Rules.{rules}
-use Rattle.field.specs.Tests.{elementsTests}
-use Rattle.refusal.proofs.Outcome.{down, given}
-use Rattle.field.proofs.Tests.{elements-passed}
+use Rattle.field.specs.Refusal.{elementsTests}
+use Rattle.field.proofs.Refusal.{down, given, elements-passed}
 use Rattle.field.proofs.Ready.{elements-ready}
 use Rattle.field.proofs.product.Statement.{statement}
 use Rattle.field.proofs.product.Tie as tie
@@ -22,7 +21,7 @@ degree-of-requires c κs =
 product-requires : tie.Need-product-requires
 product-requires c κs =
     let a = c.before.before.before.args in
-    let q = elements-ready c.degree-of.result a.p c.degree-of.ensures.0 a.a.0 a.b.0 _ c.before.before.of-elements.ensures c.before.if1.false in
+    let q = elements-ready c.degree-of.result a.p c.degree-of.ensures a.a.0 a.b.0 _ c.before.before.of-elements.ensures c.before.if1.false in
     let M = q.0.modulus in
     let ha = q.1 in
     let hb = q.2 in

@@ -6,11 +6,9 @@ use native.Mathlib.Omega.{arith}
 use lib.Dec.{eqb}
 use borrow.Author.Rules.{rules}
 use borrow.Author.Tests.{eq-eqb, ne_eqb}
-use Rattle.refusal.specs.Tests.{◌⇒◌}
-use Rattle.field.specs.Tests.{elementsTests}
-use Rattle.galois.specs.Quotient.{quotient_of}
-use Rattle.refusal.proofs.Outcome.{down-first, down-last, given-last}
-use Rattle.field.proofs.Tests.{elements-passed}
+use Rattle.field.specs.Refusal.{◌⇒◌, elementsTests}
+use Rattle.arithmetic.specs.Quotient.{quotient_of}
+use Rattle.field.proofs.Refusal.{down-first, down-last, given-last, elements-passed}
 use Rattle.field.proofs.Ready.{elements-ready}
 use Rattle.field.proofs.quotient.Statement.{statement}
 use Rattle.field.proofs.quotient.Tie as tie
@@ -37,7 +35,7 @@ degree-of-requires c κs =
 quotient-requires : tie.Need-quotient-requires
 quotient-requires c κs =
     let a = c.before.before.before.before.before.args in
-    let q = elements-ready c.degree-of.result a.p c.degree-of.ensures.0 a.a.0 a.b.0 _
+    let q = elements-ready c.degree-of.result a.p c.degree-of.ensures a.a.0 a.b.0 _
     c.before.before.before.before.of-elements.ensures c.before.before.before.if1.false in
     (q.0, q.1, omega (arith, c.before.if2.false), q.2)
 
@@ -46,7 +44,7 @@ returns-3 c =
     let a = c.before.before.before.before.before.before.args in
     given-last _ _ _ 6 (eqb a.b.0 0) (elementsTests a.p a.a.0 a.b.0) tt c.before.before.before.before.before.of-elements.ensures
     c.before.before.before.before.if1.false (ne_eqb a.b.0 0 c.before.before.if2.false)
-    (c.quotient.ensures ∙ ap (λ (k : ℕ). quotient_of k a.p a.a.0 a.b.0) c.before.degree-of.ensures.0)
+    (c.quotient.ensures ∙ ap (λ (k : ℕ). quotient_of k a.p a.a.0 a.b.0) c.before.degree-of.ensures)
 
 pub quotient-spec : {M : Type 1} → statement M
 quotient-spec =

@@ -3,9 +3,8 @@ use mathlib.Core.Path.{sym, ap, ◌∙◌}
 use Prim.Native.Nat.{ℕ, ◌-◌, ◌^◌}
 use borrow.Author.Rules.{rules}
 use Rattle.galois.specs.Power.{power}
-use Rattle.field.specs.Tests.{elementTests}
-use Rattle.refusal.proofs.Outcome.{down, given}
-use Rattle.field.proofs.Tests.{element-passed}
+use Rattle.field.specs.Refusal.{elementTests}
+use Rattle.field.proofs.Refusal.{down, given, element-passed}
 use Rattle.field.proofs.Ready.{element-ready}
 use Rattle.field.proofs.square_root.Statement.{statement}
 use Rattle.field.proofs.square_root.Tie as tie
@@ -24,13 +23,13 @@ degree-of-requires c κs =
 square-root-requires : tie.Need-square-root-requires
 square-root-requires c κs =
     let a = c.before.before.before.args in
-    (element-ready c.degree-of.result a.p c.degree-of.ensures.0 a.b.0 _ c.before.before.of-element.ensures c.before.if1.false)
+    (element-ready c.degree-of.result a.p c.degree-of.ensures a.b.0 _ c.before.before.of-element.ensures c.before.if1.false)
 
 returns-2 : tie.Need-returns-2
 returns-2 c =
     let a = c.before.before.before.before.args in
     given _ _ (elementTests a.p a.b.0) (sym c.before.before.before.of-element.ensures ∙ c.before.before.if1.false)
-    (c.square-root.ensures ∙ ap (λ (k : ℕ). power a.p a.b.0 (2 ^ (k - 1))) c.before.degree-of.ensures.0)
+    (c.square-root.ensures ∙ ap (λ (k : ℕ). power a.p a.b.0 (2 ^ (k - 1))) c.before.degree-of.ensures)
 
 pub square-root-spec : {M : Type 1} → statement M
 square-root-spec =

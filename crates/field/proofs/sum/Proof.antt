@@ -2,8 +2,8 @@
 use mathlib.Core.Path.{sym, ◌∙◌}
 use borrow.Author.Rules.{rules}
 use Rattle.binary.proofs.Xor.{is-xor}
-use Rattle.field.specs.Tests.{elementsTests}
-use Rattle.refusal.proofs.Outcome.{down, given}
+use Rattle.field.specs.Refusal.{elementsTests}
+use Rattle.field.proofs.Refusal.{down, given}
 use Rattle.field.proofs.sum.Statement.{statement}
 use Rattle.field.proofs.sum.Tie as tie
 

@@ -3,7 +3,7 @@ ghost use Rattle.std.specs.Prelude.{◌≡◌, [], ◌∷◌, ◌++◌, ◌≤�
 ghost use Rattle.field.specs.Answers.{ofElement};
 ghost use Rattle.firmware.specs.Lent.{fits, returned, after, value_of, Refuses, roomNumber};
 
-use field::ElementAnswer;
+use field::{ElementAnswer, refused};
 
 // A value in the first place of a list, where it has one.
 pub fn put(value: u32, list: &mut [u32]) -> u32
@@ -11,7 +11,7 @@ pub fn put(value: u32, list: &mut [u32]) -> u32
     ensures list_after { list.new ≡ after result (value ∷ []) list.old }
 {
     if list.len() == 0 {
-        return refusal::NO_PLACE;
+        return refused::NO_PLACE;
     }
     list[0] = value;
     0

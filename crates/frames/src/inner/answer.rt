@@ -1,6 +1,6 @@
 // The calls' answers as bytes of text. Each function says how many bytes it has put.
 ghost use Rattle.std.specs.Prelude.{◌≡◌, [], ◌∷◌, ◌++◌, ◌+◌, ◌*◌, ◌≤◌, ◌<◌, length};
-ghost use Rattle.affine.specs.Limits.{places};
+ghost use Rattle.linear.specs.Limits.{places};
 ghost use Rattle.affine.specs.Answers.{ofAffine};
 ghost use Rattle.roots.specs.Limits.{mostRoots};
 ghost use Rattle.roots.specs.Answers.{ofRoots};
@@ -11,8 +11,8 @@ ghost use Rattle.frames.specs.Answer.{rootBytes, directionBytes, rootsBytes, aff
 use crate::inner::frame::{AFFINE, DEGREE_UP_TO_4};
 use crate::inner::text::{put_byte, put_element};
 use crate::limits::ANSWER_ROOM;
-use affine::limits::PLACES;
 use affine::{AffineAnswer, RootSpace};
+use linear::inner::elimination::PLACES;
 use roots::limits::MOST_ROOTS;
 use roots::{RootCount, RootsAnswer};
 
@@ -105,8 +105,7 @@ pub fn put_roots_answer(out: &mut [u8; ANSWER_ROOM], answer: RootsAnswer) -> usi
     ensures out_after { out.new ≡ putBytes out.old 0 (rootsBytes (ofRoots answer)) }
 {
     let count = answer.count;
-    let elements = answer.roots;
-    let roots = roots::inner::elements::as_numbers(elements);
+    let roots = answer.roots;
     let multiplicities = answer.multiplicities;
     match count {
         RootCount::TurnedDown(number) => put_refusal(out, DEGREE_UP_TO_4, number),
@@ -121,8 +120,7 @@ pub fn put_affine_answer(out: &mut [u8; ANSWER_ROOM], answer: AffineAnswer) -> u
 {
     let space = answer.space;
     let base = answer.base;
-    let elements = answer.directions;
-    let directions = affine::inner::elements::as_numbers(elements);
+    let directions = answer.directions;
     match space {
         RootSpace::TurnedDown(number) => put_refusal(out, AFFINE, number),
         RootSpace::NoRoot => put_space(out, 0, 0, base.0, directions),

@@ -5,7 +5,7 @@ ghost use Rattle.frames.specs.Answer.{calledBytes, answerBytes};
 
 use crate::inner::answer::{put_affine_answer, put_refusal, put_roots_answer};
 use crate::inner::frame::{DEGREE_UP_TO_4, coefficients_of, count_of, kind_of, polynomial_of};
-use crate::inner::malformed::refused_by;
+use crate::inner::malformed::refusal;
 use crate::limits::ANSWER_ROOM;
 
 // The first byte of the answer to a malformed line.
@@ -25,7 +25,7 @@ pub fn put_answer(out: &mut [u8; ANSWER_ROOM], line: &[u8]) -> usize
     ensures value { result ≡ length (answerBytes line.now) }
     ensures out_after { out.new ≡ putBytes out.old 0 (answerBytes line.now) }
 {
-    let refused = refused_by(line);
+    let refused = refusal(line);
     if refused != 0 {
         return put_refusal(out, NO_KIND, refused);
     }

@@ -1,11 +1,12 @@
 // Whether a line is malformed.
 ghost use Rattle.std.specs.Prelude.{◌≡◌, ◌≤◌, length};
-ghost use Rattle.refusal.specs.Tests.{refusal};
+ghost use Rattle.field.specs.Refusal.{refusal};
 ghost use Rattle.frames.specs.Frame.{anotherCharacter, anotherKind, disagrees, lineTests};
 
 use crate::inner::character::{NO_DIGIT, digit_value};
 use crate::inner::frame::{AFFINE, DEGREE_UP_TO_4, count_of, kind_of};
 use crate::limits::MOST_DIGITS;
+use crate::refused::MALFORMED;
 
 fn another_character(line: &[u8]) -> bool
     ensures { result ≡ anotherCharacter line.now }
@@ -37,26 +38,26 @@ fn disagrees(line: &[u8]) -> bool
 }
 
 // 8 where the line is malformed, else 0. Of a line longer than the most digits nothing is read.
-pub fn refused_by(line: &[u8]) -> u32
+pub fn refusal(line: &[u8]) -> u32
     ensures { result ≡ refusal (lineTests line.now) }
 {
     if MOST_DIGITS < line.len() {
-        return refusal::MALFORMED;
+        return MALFORMED;
     }
     if line.len() % 2 == 1 {
-        return refusal::MALFORMED;
+        return MALFORMED;
     }
     if line.len() / 2 < 5 {
-        return refusal::MALFORMED;
+        return MALFORMED;
     }
     if another_character(line) {
-        return refusal::MALFORMED;
+        return MALFORMED;
     }
     if another_kind(line) {
-        return refusal::MALFORMED;
+        return MALFORMED;
     }
     if disagrees(line) {
-        return refusal::MALFORMED;
+        return MALFORMED;
     }
     0
 }

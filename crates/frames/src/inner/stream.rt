@@ -9,6 +9,7 @@ ghost use Rattle.frames.specs.Stream.{beforeFeed, lengthened, keptAfter, held, a
 use crate::inner::answer::put_refusal;
 use crate::inner::call::{NO_KIND, put_answer};
 use crate::limits::{ANSWER_ROOM, MOST_DIGITS};
+use crate::refused::MALFORMED;
 
 const LINE_FEED: u8 = 10;
 
@@ -80,7 +81,7 @@ fn put_held(out: &mut [u8; ANSWER_ROOM], line: &[u8; MOST_DIGITS], n: usize) -> 
     ensures out_after { out.new ≡ putBytes out.old 0 (answerBytes (held n line.now)) }
 {
     if MOST_DIGITS < n {
-        return put_refusal(out, NO_KIND, refusal::MALFORMED);
+        return put_refusal(out, NO_KIND, MALFORMED);
     }
     put_front(out, line, n)
 }

@@ -1,48 +1,43 @@
 -- `build` meets its contract. Assumes nothing.
-use mathlib.Core.Path.{sym, ◌∙◌}
+use mathlib.Core.Path.{sym, ap, ◌∙◌, subst}
+use mathlib.Core.List.{List}
+use Prim.Native.Nat.{ℕ}
 use borrow.Author.Rules.{rules}
-use Rattle.binary.specs.Factor.{degreeOf}
-use Rattle.field.proofs.Tests.{accepted}
-use Rattle.field.proofs.InField.{polynomial-down, in_field}
-use Rattle.roots.specs.Calls.{buildTestsInField, built, refusedBuilt}
+use Rattle.galois.specs.Polynomial.{Coeffs}
+use Rattle.field.specs.Refusal.{gives}
+use Rattle.field.proofs.Ready.{ready}
+use Rattle.field.proofs.Refusal.{refused-by, answered-by}
+use Rattle.roots.specs.Calls.{buildTests, refusedBuilt}
+use Rattle.roots.proofs.Tests.{build-passed}
 use Rattle.roots.proofs.build.Statement.{statement}
 use Rattle.roots.proofs.build.Tie as tie
 
-of-polynomial-requires : tie.Need-of-polynomial-requires
-of-polynomial-requires c κs = search rules
-
-not-built-requires : tie.Need-not-built-requires
-not-built-requires c κs = search rules
+refusal-requires : tie.Need-refusal-requires
+refusal-requires c κs = search rules
 
 returns : tie.Need-returns
 returns c =
-    let tested = c.before.before in
-    let a = tested.before.before.args in
-    c.not-built.ensures
-    ∙ polynomial-down refusedBuilt a.p _ tested.of-polynomial.ensures (buildTestsInField (degreeOf a.p) a.roots.now) _ c.before.if1.true
+    let a = c.before.before.before.args in
+    refused-by refusedBuilt _ _ (buildTests a.p a.roots.now) c.before.refusal.ensures c.if1.true
 
 degree-of-requires : tie.Need-degree-of-requires
-degree-of-requires c κs = accepted _ (sym c.before.of-polynomial.ensures ∙ c.if1.false)
+degree-of-requires c κs =
+    let a = c.before.before.before.args in
+    (build-passed a.p a.roots.now (sym c.before.refusal.ensures ∙ c.if1.false)).0
 
-build-requires : tie.Need-build-requires
-build-requires c κs = search rules
+built-requires : tie.Need-built-requires
+built-requires c κs =
+    let a = c.before.before.before.before.args in
+    let q = build-passed a.p a.roots.now (sym c.before.before.refusal.ensures ∙ c.before.if1.false) in
+    let d = c.degree-of.ensures in
+    (ready _ a.p d q.0, q.1, subst (λ (k : ℕ). Coeffs k a.roots.now) (sym d) q.2)
 
 returns-2 : tie.Need-returns-2
 returns-2 c =
-    let field = c.before in
-    let tested = field.before.before in
-    let a = tested.before.before.args in
-    let given = a.roots.now in
-    c.build.ensures
-    ∙ in_field refusedBuilt a.p _ tested.of-polynomial.ensures (λ m. buildTestsInField m given) (λ m. built a.p given) _ field.degree-of.ensures.0 field.before.if1.false
+    let a = c.before.before.before.before.before.args in
+    ap (λ (l : List ℕ). record { says = gives tt; coefficients = l }) c.built.ensures
+    ∙ answered-by refusedBuilt _ (buildTests a.p a.roots.now) (sym c.before.before.before.refusal.ensures ∙ c.before.before.if1.false)
 
 pub build-spec : {M : Type 1} → statement M
 build-spec =
-    tie.close
-    (tie.spec
-    of-polynomial-requires
-    not-built-requires
-    returns
-    degree-of-requires
-    build-requires
-    returns-2)
+    tie.close (tie.spec refusal-requires returns degree-of-requires built-requires returns-2)

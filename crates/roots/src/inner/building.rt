@@ -1,23 +1,25 @@
 // The product of all (x + r).
 ghost use Rattle.std.specs.Prelude.{◌≡◌, ◌≤◌, length};
 ghost use Rattle.algebra.specs.Lists.{padded};
-ghost use Rattle.binary.specs.Product.{wordDegree};
 ghost use Rattle.galois.specs.Polynomial.{Coeffs, build};
 ghost use Rattle.arithmetic.specs.Modulus.{FieldModulus};
-ghost use Rattle.refusal.specs.Tests.{refusal};
+ghost use Rattle.field.specs.Refusal.{refusal};
 ghost use Rattle.roots.specs.Limits.{mostCoefficients, mostRoots};
-ghost use Rattle.roots.specs.Calls.{buildTestsInField};
+ghost use Rattle.roots.specs.Calls.{buildTests};
 
 use crate::inner::polynomial::with_root;
 use crate::limits::{MOST_COEFFICIENTS, MOST_ROOTS};
-use field::inner::tests::of_list;
+use field::inner::refusal::{of_list, of_polynomial};
 
-// The number that the roots are turned down by, in a field of degree m; 0 where none applies.
-pub fn refused_by(m: u32, roots: &[u32]) -> u32
-    requires { m ≤ wordDegree }
-    ensures { result ≡ refusal (buildTestsInField m roots.now) }
+// The number that the polynomial or the roots are turned down by; 0 where none applies.
+pub fn refusal(p: u32, roots: &[u32]) -> u32
+    ensures { result ≡ refusal (buildTests p roots.now) }
 {
-    of_list(m, MOST_ROOTS < roots.len(), roots)
+    let refused = of_polynomial(p);
+    if refused != 0 {
+        return refused;
+    }
+    of_list(p, MOST_ROOTS < roots.len(), roots)
 }
 
 // From the last root to the first, beginning with 1.

@@ -1,13 +1,13 @@
 // An equation's tests, and its coefficients in five places.
 ghost use Rattle.std.specs.Prelude.{◌≡◌, ◌≤◌, length};
 ghost use Rattle.algebra.specs.Lists.{padded};
-ghost use Rattle.binary.specs.Product.{wordDegree};
-ghost use Rattle.refusal.specs.Tests.{refusal};
+ghost use Rattle.field.specs.Refusal.{refusal};
 ghost use Rattle.roots.specs.Limits.{mostCoefficients};
-ghost use Rattle.roots.specs.Calls.{allZero, testsInField};
+ghost use Rattle.roots.specs.Calls.{allZero, equationTests};
 
 use crate::limits::MOST_COEFFICIENTS;
-use field::inner::tests::{of_list, wrong_count};
+use field::inner::refusal::{of_list, of_polynomial, wrong_count};
+use field::refused;
 
 fn all_zero(coefficients: &[u32]) -> bool
     ensures { result ≡ allZero coefficients.now }
@@ -20,13 +20,16 @@ fn all_zero(coefficients: &[u32]) -> bool
     true
 }
 
-// The number that the coefficients are turned down by, in a field of degree m; 0 where none applies.
-pub fn refused_by(m: u32, coefficients: &[u32]) -> u32
-    requires { m ≤ wordDegree }
-    ensures { result ≡ refusal (testsInField m coefficients.now) }
+// The number that the polynomial or the coefficients are turned down by; 0 where none applies.
+pub fn refusal(p: u32, coefficients: &[u32]) -> u32
+    ensures { result ≡ refusal (equationTests p coefficients.now) }
 {
+    let refused = of_polynomial(p);
+    if refused != 0 {
+        return refused;
+    }
     let refused = of_list(
-        m,
+        p,
         wrong_count(MOST_COEFFICIENTS, coefficients.len()),
         coefficients,
     );
@@ -34,7 +37,7 @@ pub fn refused_by(m: u32, coefficients: &[u32]) -> u32
         return refused;
     }
     if all_zero(coefficients) {
-        return refusal::ALL_ZERO;
+        return refused::ALL_ZERO;
     }
     0
 }

@@ -1,27 +1,25 @@
 // The answer to an equation that has passed its tests.
 ghost use Rattle.std.specs.Prelude.{◌≡◌};
-ghost use Rattle.refusal.specs.Tests.{refusal};
-ghost use Rattle.galois.specs.Roots.{rootsOf};
-ghost use Rattle.field.specs.Accepted.{AcceptedAs};
+ghost use Rattle.field.specs.Refusal.{refusal};
 ghost use Rattle.roots.specs.Answers.{ofRoots};
-ghost use Rattle.roots.specs.Calls.{testsInField, solved};
+ghost use Rattle.roots.specs.Calls.{equationTests, solveAnswer};
 
-use crate::inner::elements::as_elements;
 use crate::inner::equation::five;
 use crate::inner::multiplicity::multiplicities;
 use crate::inner::sorting::ascending;
 use crate::inner::unsorted::roots_of;
 use crate::{RootCount, RootsAnswer};
+use field::inner::refusal::degree_of;
 
-pub fn solved(p: u32, m: u32, coefficients: &[u32]) -> RootsAnswer
-    requires { AcceptedAs m p × (refusal (testsInField m coefficients.now) ≡ 0) }
-    ensures { ofRoots result ≡ solved p coefficients.now (rootsOf m p coefficients.now) }
+pub fn solved(p: u32, coefficients: &[u32]) -> RootsAnswer
+    requires { refusal (equationTests p coefficients.now) ≡ 0 }
+    ensures { ofRoots result ≡ solveAnswer p coefficients.now }
 {
+    let m = degree_of(p);
     let f = five(coefficients);
     let found = ascending(roots_of(p, m, f));
+    let roots = found.roots;
     let multiplicities = multiplicities(p, m, f, found);
-    let numbers = found.roots;
-    let roots = as_elements(numbers);
     RootsAnswer {
         count: RootCount::Solved(found.count as u32),
         roots,

@@ -5,7 +5,7 @@ ghost use Rattle.binary.specs.Xor.{◌⊕◌};
 ghost use Rattle.galois.specs.Polynomial.{Coeffs};
 ghost use Rattle.galois.specs.Roots.{rootsOf};
 ghost use Rattle.arithmetic.specs.Modulus.{FieldModulus};
-ghost use Rattle.affine.specs.Limits.{places};
+ghost use Rattle.linear.specs.Limits.{places};
 ghost use Rattle.affine.specs.Equation.{solutionOf};
 ghost use Rattle.roots.specs.Limits.{mostRoots};
 ghost use Rattle.roots.specs.Equation.{Ready, Units, quarticOf, folded, fromInverse};
@@ -33,14 +33,14 @@ const FOLDED: u32 = 2;
 // The solutions of c + l0·x + l1·x^2 + l2·x^4 = 0 as base and directions.
 fn space(p: u32, m: u32, c: u32, l0: u32, l1: u32, l2: u32) -> Solution
     requires { FieldModulus m p × (m ≤ places) × Coeffs m (quarticOf c l0 l1 l2) }
-    ensures { result ≡ solutionOf m p (folded m c l0 l1 l2) }
+    ensures { result ≡ solutionOf p (folded m c l0 l1 l2) }
 {
     if m == FOLDED {
         let short = [c, l0 ^ l2, l1];
-        return solution(p, m, &short);
+        return solution(p, &short);
     }
     let coefficients = [c, l0, l1, l2];
-    solution(p, m, &coefficients)
+    solution(p, &coefficients)
 }
 
 // The roots of c + l0·x + l1·x^2 + l2·x^4, not all zero: there are at most four, so at most two directions.

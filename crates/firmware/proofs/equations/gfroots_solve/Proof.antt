@@ -11,9 +11,6 @@ use Rattle.firmware.proofs.equations.gfroots_solve.Tie as tie
 solve-requires : tie.Need-solve-requires
 solve-requires c κs = search rules
 
-as-numbers-requires : tie.Need-as-numbers-requires
-as-numbers-requires c κs = search rules
-
 enum-known-said : tie.Need-enum-known-said
 enum-known-said c = search rules
 
@@ -25,11 +22,9 @@ put-roots-requires c κs = search rules
 
 returns : tie.Need-returns
 returns c =
-    let refused = c.before in
-    let solved = refused.before.before.before.before.before in
-    let a = solved.before.before.before.before.before.args in
+    let a = c.before.before.before.before.before.before.before.before.before.before.args in
     roots-down _ _ _ a.count.now a.roots.now a.multiplicities.now
-    (sym (ap ofRootCount refused.said.given.1) ∙ ap (λ (q : Answer). q.says) solved.solve.ensures) (solve-refuses a.p a.coefficients.now)
+    (sym (ap ofRootCount c.before.said.given.1) ∙ ap (λ (q : Answer). q.says) c.before.before.before.before.before.solve.ensures) (solve-refuses a.p a.coefficients.now)
 
 same_length : tie.Need-same-length
 same_length c = search rules
@@ -42,18 +37,13 @@ same-length-3 c = search rules
 
 returns-2 : tie.Need-returns-2
 returns-2 c =
-    let put = c.before.before.before.before.before.before in
-    let found = put.before.before.before.before.before in
-    let numbers = found.before.before.before in
-    let solved = numbers.before.before in
-    roots-found solved.solve.result _ _ _ _ _ _ _ _ _ _ _ found.said2.given.1 numbers.as-numbers.ensures solved.solve.ensures put.put-roots.ensures
+    roots-found c.before.before.before.before.before.before.before.before.before.before.before.before.before.before.before.solve.result _ _ _ _ _ _ _ _ _ _ c.before.before.before.before.before.before.before.before.before.before.before.said2.given.1 c.before.before.before.before.before.before.before.before.before.before.before.before.before.before.before.solve.ensures c.before.before.before.before.before.before.put-roots.ensures
 
 pub gfroots-solve-spec : {M : Type 1} → statement M
 gfroots-solve-spec =
     tie.close
     (tie.spec
     solve-requires
-    as-numbers-requires
     enum-known-said
     enum-known-said-2
     put-roots-requires

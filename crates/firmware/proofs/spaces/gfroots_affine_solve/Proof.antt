@@ -11,9 +11,6 @@ use Rattle.firmware.proofs.spaces.gfroots_affine_solve.Tie as tie
 solve-requires : tie.Need-solve-requires
 solve-requires c κs = search rules
 
-as-numbers-requires : tie.Need-as-numbers-requires
-as-numbers-requires c κs = search rules
-
 enum-known-said : tie.Need-enum-known-said
 enum-known-said c = search rules
 
@@ -31,11 +28,9 @@ put-space-requires-2 c κs = search rules
 
 returns : tie.Need-returns
 returns c =
-    let refused = c.before in
-    let solved = refused.before.before.before.before.before in
-    let a = solved.before.before.before.before.args in
+    let a = c.before.before.before.before.before.before.before.before.before.args in
     space-down _ _ _ a.space.now a.directions.now
-    (sym (ap ofSpace refused.said.given.1) ∙ ap (λ (q : Answer). q.says) solved.solve.ensures) (affine-refuses a.p a.coefficients.now)
+    (sym (ap ofSpace c.before.said.given.1) ∙ ap (λ (q : Answer). q.says) c.before.before.before.before.before.solve.ensures) (affine-refuses a.p a.coefficients.now)
 
 same_length : tie.Need-same-length
 same_length c = search rules
@@ -45,11 +40,7 @@ same-length-2 c = search rules
 
 returns-2 : tie.Need-returns-2
 returns-2 c =
-    let put = c.before.before.before.before in
-    let none = put.before.before.before in
-    let numbers = none.before.before in
-    let solved = numbers.before.before.before in
-    space-found solved.solve.result _ _ _ _ _ _ _ _ _ none.enum_told.given.1 numbers.as-numbers.ensures solved.solve.ensures put.put-space.ensures
+    space-found c.before.before.before.before.before.before.before.before.before.before.before.solve.result _ _ _ _ _ _ _ _ c.before.before.before.before.before.before.before.enum_told.given.1 c.before.before.before.before.before.before.before.before.before.before.before.solve.ensures c.before.before.before.before.put-space.ensures
 
 same-length-3 : tie.Need-same-length-3
 same-length-3 c = search rules
@@ -59,18 +50,13 @@ same-length-4 c = search rules
 
 returns-3 : tie.Need-returns-3
 returns-3 c =
-    let put = c.before.before.before.before in
-    let found = put.before.before.before.before in
-    let numbers = found.before.before in
-    let solved = numbers.before.before.before in
-    space-found solved.solve.result _ _ _ _ _ _ _ _ _ found.said2.given.1 numbers.as-numbers.ensures solved.solve.ensures put.put-space2.ensures
+    space-found c.before.before.before.before.before.before.before.before.before.before.before.before.solve.result _ _ _ _ _ _ _ _ c.before.before.before.before.before.before.before.before.said2.given.1 c.before.before.before.before.before.before.before.before.before.before.before.before.solve.ensures c.before.before.before.before.put-space2.ensures
 
 pub gfroots-affine-solve-spec : {M : Type 1} → statement M
 gfroots-affine-solve-spec =
     tie.close
     (tie.spec
     solve-requires
-    as-numbers-requires
     enum-known-said
     enum_told
     put-space-requires

@@ -4,7 +4,7 @@ use mathlib.Core.Logic.{◌≢◌}
 use native.Mathlib.Nat.{pos_of_ne-zero}
 use native.Mathlib.Omega.{arith}
 use lib.ListN.{length}
-use Rattle.refusal.specs.Outcome.{Outcome}
+use Rattle.field.specs.Refusal.{Outcome}
 use Rattle.affine.specs.Answers.{ofCount}
 use Rattle.affine.specs.Calls.{solveAnswer, listingOutcome}
 use Rattle.affine.specs.Equation.{allRoots}

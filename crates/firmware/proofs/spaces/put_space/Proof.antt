@@ -2,7 +2,7 @@
 use mathlib.Core.Path.{◌≡◌, refl, sym, ap, ◌∙◌}
 use native.Mathlib.Omega.{arith}
 use lib.ListN.{length}
-use Rattle.affine.specs.Limits.{places}
+use Rattle.linear.specs.Limits.{places}
 use Rattle.firmware.specs.Lent.{fits, roomNumber}
 use Rattle.firmware.proofs.Room.{fits-long, fits-short, no-first, no_second, by-second}
 use borrow.Author.Rules.{rules}

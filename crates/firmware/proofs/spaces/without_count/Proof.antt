@@ -1,7 +1,7 @@
 -- `without_count` meets its contract. Assumes nothing.
 use mathlib.Core.Path.{sym, ap, ◌∙◌}
 use mathlib.Core.Bool.{false}
-use Rattle.refusal.specs.Outcome.{Outcome}
+use Rattle.field.specs.Refusal.{Outcome}
 use Rattle.affine.specs.Answers.{ofSpace}
 use Rattle.affine.specs.Calls.{Space, Answer}
 use Rattle.firmware.specs.Lent.{returned}

@@ -16,14 +16,14 @@ loop-holds c = search rules
 mul-root : tie.Need-overflow-mul-root invariant-loop decreases-loop
 mul-root c = search rules
 
-element-copy-out-root : tie.Need-element-copy-out-root invariant-loop decreases-loop
-element-copy-out-root c = search rules
+array-read-root : tie.Need-array-read-root invariant-loop decreases-loop
+array-read-root c = search rules
 
 mul-root-2 : tie.Need-overflow-mul-root-2 invariant-loop decreases-loop
 mul-root-2 c = search rules
 
-array-read-root : tie.Need-array-read-root invariant-loop decreases-loop
-array-read-root c = search rules
+array-read-root-2 : tie.Need-array-read-root-2 invariant-loop decreases-loop
+array-read-root-2 c = search rules
 
 root-requires : tie.Need-root-requires invariant-loop decreases-loop
 root-requires c κs = search rules
@@ -48,9 +48,9 @@ roots-said-spec =
     decreases-loop
     loop-holds
     mul-root
-    element-copy-out-root
-    mul-root-2
     array-read-root
+    mul-root-2
+    array-read-root-2
     root-requires
     add-i
     loop-less

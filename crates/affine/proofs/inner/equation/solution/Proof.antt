@@ -1,20 +1,25 @@
 -- `solution` meets its contract. Assumes nothing.
-use mathlib.Core.Path.{◌∙◌}
+use mathlib.Core.Path.{ap, ◌∙◌}
+use Prim.Native.Nat.{ℕ}
 use borrow.Author.Rules.{rules}
-use Rattle.affine.specs.Equation.{solutionOf}
-use Rattle.affine.proofs.Tests.{part-is, part-ready}
+use Rattle.linear.specs.Solution.{solutionBy}
+use Rattle.affine.specs.Equation.{isRoot, isDirection, solutionOf}
+use Rattle.affine.proofs.Tests.{ready-accepted, ready_at, part-is, part-ready}
 use Rattle.affine.proofs.Matrix.{matrix-solution}
 use Rattle.affine.proofs.inner.equation.solution.Statement.{statement}
 use Rattle.affine.proofs.inner.equation.solution.Tie as tie
 
+degree-of-requires : tie.Need-degree-of-requires
+degree-of-requires c κs = ready-accepted _ c.before.args.coefficients.now c.before.requires
+
 sub-columns-of : tie.Need-overflow-sub-columns-of
 sub-columns-of c =
-    let some = c.before.requires.some in
+    let some = c.before.before.requires.some in
     search rules
 
 part-columns-of-start : tie.Need-slice-bounds-columns-of-start
 part-columns-of-start c =
-    let some = c.before.requires.some in
+    let some = c.before.before.requires.some in
     search rules
 
 part-columns-of-end : tie.Need-slice-bounds-columns-of-end
@@ -22,36 +27,43 @@ part-columns-of-end c = search rules
 
 columns-of-requires : tie.Need-columns-of-requires
 columns-of-requires c κs =
-    let R = c.before.before.requires in
+    let a = c.before.before.before.args in
+    let R = ready_at c.before.degree-of.result a.p a.coefficients.now c.before.degree-of.ensures c.before.before.before.requires in
     let q = part-ready _ _ _ R in
     (R.field, R.largest, q.0, q.1)
 
 shared-slice-read-rows-of : tie.Need-shared-slice-read-rows-of
 shared-slice-read-rows-of c =
-    let some = c.before.before.before.before.requires.some in
+    let some = c.before.before.before.before.before.requires.some in
     search rules
 
 rows-of-requires : tie.Need-rows-of-requires
-rows-of-requires c κs = c.before.before.before.before.requires.largest
+rows-of-requires c κs =
+    let a = c.before.before.before.before.before.args in
+    (ready_at _ a.p a.coefficients.now c.before.before.before.degree-of.ensures c.before.before.before.before.before.requires).largest
 
 solved-requires : tie.Need-solved-requires
-solved-requires c κs = c.before.before.before.before.before.requires.largest
+solved-requires c κs =
+    let a = c.before.before.before.before.before.before.args in
+    (ready_at _ a.p a.coefficients.now c.before.before.before.before.degree-of.ensures c.before.before.before.before.before.before.requires).largest
 
 returns : tie.Need-returns
 unfolding solutionOf
 returns c =
-    let rows = c.before in
-    let columns = rows.before.before in
-    let start = columns.before.before.before in
-    let R = start.requires in
-    let k = rw (part-is _ _ _ R) at columns.columns_of.ensures in
+    let a = c.before.before.before.before.before.before.before.args in
+    let d = c.before.before.before.before.before.degree-of.ensures in
+    let cs = a.coefficients.now in
+    let R = ready_at _ a.p cs d c.before.before.before.before.before.before.before.requires in
+    let k = rw (part-is _ a.p cs R) at c.before.before.before.columns_of.ensures in
     c.solved.ensures
-    ∙ matrix-solution _ start.args.p R.field.field start.args.coefficients.now R.largest R.small columns.columns_of.result _ k rows.rows_of_lem.ensures
+    ∙ matrix-solution _ a.p R.field.field cs R.largest R.small c.before.before.before.columns_of.result _ k c.before.rows_of_lem.ensures
+    ∙ ap (λ (m : ℕ). solutionBy m (isRoot a.p cs) (isDirection a.p cs)) d
 
 pub solution-spec : {M : Type 1} → statement M
 solution-spec =
     tie.close
     (tie.spec
+    degree-of-requires
     sub-columns-of
     part-columns-of-start
     part-columns-of-end

@@ -1,7 +1,7 @@
 -- `quotient` meets its contract. Assumes nothing.
 use mathlib.Core.Path.{◌∙◌}
 use borrow.Author.Rules.{rules}
-use Rattle.galois.proofs.Quotient.{quotient_by}
+use Rattle.arithmetic.proofs.Quotient.{quotient_by}
 use Rattle.arithmetic.proofs.inner.inverse.quotient.Statement.{statement}
 use Rattle.arithmetic.proofs.inner.inverse.quotient.Tie as tie
 

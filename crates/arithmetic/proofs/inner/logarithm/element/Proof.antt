@@ -5,7 +5,7 @@ use native.Mathlib.Omega.{arith}
 use lib.Pow.{pow_mono}
 use borrow.Author.Rules.{rules}
 use Rattle.galois.specs.Power.{power}
-use Rattle.galois.specs.Number.{elementOf}
+use Rattle.arithmetic.specs.Number.{elementOf}
 use Rattle.arithmetic.proofs.inner.logarithm.element.Statement.{statement}
 use Rattle.arithmetic.proofs.inner.logarithm.element.Tie as tie
 

@@ -1,7 +1,7 @@
 -- `power` meets its contract. Assumes nothing.
 use mathlib.Core.Path.{sym, ◌∙◌}
 use mir.Facts.{to_z-of_z}
-use Rattle.galois.proofs.Exponent.{power-plain, power-inverse}
+use Rattle.arithmetic.proofs.Power.{power-plain, power-inverse}
 use borrow.Author.Rules.{rules}
 use Rattle.arithmetic.proofs.inner.power.power.Statement.{statement}
 use Rattle.arithmetic.proofs.inner.power.power.Tie as tie

@@ -9,7 +9,7 @@ use Rattle.galois.specs.Field.{Field}
 use Rattle.galois.proofs.Field.{one-lt}
 use Rattle.galois.specs.Power.{power}
 use Rattle.galois.proofs.Power.{power-lt}
-use Rattle.galois.proofs.Exponent.{power-digit}
+use Rattle.arithmetic.proofs.Power.{power-digit}
 use Rattle.arithmetic.proofs.inner.power.raised.Statement.{statement}
 use Rattle.arithmetic.proofs.inner.power.raised.Tie as tie
 

@@ -5,8 +5,8 @@ use borrow.Author.Rules.{rules}
 use Rattle.binary.specs.Xor.{◌⊕◌}
 use Rattle.binary.proofs.Xor.{is-xor}
 use Rattle.binary.specs.Product.{product}
-use Rattle.galois.specs.Quotient.{quotient_of}
-use Rattle.galois.proofs.Quotient.{quotient-lt}
+use Rattle.arithmetic.specs.Quotient.{quotient_of}
+use Rattle.arithmetic.proofs.Quotient.{quotient-lt}
 use Rattle.arithmetic.proofs.Root.{half_lt, odd_pos, root-by-halves}
 use Rattle.arithmetic.proofs.inner.root.square_root.Statement.{statement}
 use Rattle.arithmetic.proofs.inner.root.square_root.Tie as tie

@@ -4,9 +4,6 @@ use Rattle.frames.proofs.Answered.{affine-refused, affine-none, affine-found, af
 use Rattle.frames.proofs.inner.answer.put_affine_answer.Statement.{statement}
 use Rattle.frames.proofs.inner.answer.put_affine_answer.Tie as tie
 
-as-numbers-requires : tie.Need-as-numbers-requires
-as-numbers-requires c κs = search rules
-
 enum-known-space : tie.Need-enum-known-space
 enum-known-space c = search rules
 
@@ -23,38 +20,27 @@ enum-known-space-2 : tie.Need-enum-known-space-2
 enum-known-space-2 c = search rules
 
 put-space-requires-2 : tie.Need-put-space-requires-2
-put-space-requires-2 c κs =
-    let found = c.before.before in
-    let start = found.before.before.before.before.before in
-    affine-few start.args.answer _ found.space2.given.1 start.requires
+put-space-requires-2 c κs = affine-few c.before.before.before.before.before.before.args.answer _ c.before.before.space2.given.1 c.before.before.before.before.before.before.requires
 
 returns : tie.Need-returns
 returns c =
-    let refused = c.before.before.before in
-    let start = refused.before.before.before.before.before in
     let s = c.put-refusal.ensures in
-    affine-refused start.args.answer _ _ refused.space.given.1 s.0 s.1
+    affine-refused c.before.before.before.before.before.before.before.args.answer _ _ c.before.before.before.space.given.1 s.0 s.1
 
 returns-2 : tie.Need-returns-2
 returns-2 c =
-    let none = c.before.before in
-    let start = none.before.before.before.before.before in
     let s = c.put-space.ensures in
-    affine-none start.args.answer _ none.enum_told.given.1 s.0 s.1
+    affine-none c.before.before.before.before.before.before.args.answer _ c.before.before.enum_told.given.1 s.0 s.1
 
 returns-3 : tie.Need-returns-3
 returns-3 c =
-    let found = c.before.before.before in
-    let numbers = found.before.before in
-    let start = numbers.before.before.before in
     let s = c.put-space2.ensures in
-    affine-found start.args.answer _ _ _ found.space2.given.1 numbers.as-numbers.ensures s.0 s.1
+    affine-found c.before.before.before.before.before.before.before.args.answer _ _ c.before.before.before.space2.given.1 s.0 s.1
 
 pub put-affine-answer-spec : {M : Type 1} → statement M
 put-affine-answer-spec =
     tie.close
     (tie.spec
-    as-numbers-requires
     enum-known-space
     put-refusal-requires
     enum_told

@@ -8,8 +8,8 @@ use Rattle.frames.proofs.Called.{line_refused, line-called}
 use Rattle.frames.proofs.inner.call.put_answer.Statement.{statement}
 use Rattle.frames.proofs.inner.call.put_answer.Tie as tie
 
-refused-by-requires : tie.Need-refused-by-requires
-refused-by-requires c κs = search rules
+refusal-requires : tie.Need-refusal-requires
+refusal-requires c κs = search rules
 
 put-refusal-requires : tie.Need-put-refusal-requires
 put-refusal-requires c κs = search rules
@@ -17,33 +17,33 @@ put-refusal-requires c κs = search rules
 returns : tie.Need-returns
 returns c =
     let s = c.put-refusal.ensures in
-    line_refused _ _ _ c.before.before.before.refused-by.ensures c.before.before.if1.true s.0 s.1
+    line_refused _ _ _ c.before.before.before.refusal.ensures c.before.before.if1.true s.0 s.1
 
 coefficients-of-requires : tie.Need-coefficients-of-requires
-coefficients-of-requires c κs = is-well-formed _ (sym c.before.refused-by.ensures ∙ c.if1.false)
+coefficients-of-requires c κs = is-well-formed _ (sym c.before.refusal.ensures ∙ c.if1.false)
 
 count-of-requires : tie.Need-count-of-requires
 count-of-requires c κs =
-    let w = is-well-formed c.before.before.before.before.args.line.now (sym c.before.before.refused-by.ensures ∙ c.before.if1.false) in
+    let w = is-well-formed c.before.before.before.before.args.line.now (sym c.before.before.refusal.ensures ∙ c.before.if1.false) in
     omega (arith, w.agrees)
 
 kind-of-requires : tie.Need-kind-of-requires
 kind-of-requires c κs =
-    let w = is-well-formed c.before.before.before.before.before.before.args.line.now (sym c.before.before.before.before.refused-by.ensures ∙ c.before.before.before.if1.false) in
+    let w = is-well-formed c.before.before.before.before.before.before.args.line.now (sym c.before.before.before.before.refusal.ensures ∙ c.before.before.before.if1.false) in
     omega (arith, w.agrees)
 
 polynomial-of-requires : tie.Need-polynomial-of-requires
 polynomial-of-requires c κs =
-    let w = is-well-formed c.before.before.before.before.before.before.before.args.line.now (sym c.before.before.before.before.before.refused-by.ensures ∙ c.before.before.before.before.if1.false) in
+    let w = is-well-formed c.before.before.before.before.before.before.before.args.line.now (sym c.before.before.before.before.before.refusal.ensures ∙ c.before.before.before.before.if1.false) in
     omega (arith, w.agrees)
 
 array-share-prefix-coefficients : tie.Need-array-share-prefix-coefficients
 array-share-prefix-coefficients c =
-    count-within c.before.before.before.before.before.before.before.before.args.line.now _ _ (sym c.before.before.before.before.before.before.refused-by.ensures ∙ c.before.before.before.before.before.if1.false) c.before.before.before.before.coefficients-of.ensures c.before.before.before.count_of.ensures.0
+    count-within c.before.before.before.before.before.before.before.before.args.line.now _ _ (sym c.before.before.before.before.before.before.refusal.ensures ∙ c.before.before.before.before.before.if1.false) c.before.before.before.before.coefficients-of.ensures c.before.before.before.count_of.ensures.0
 
 slice-aggregate-put-called : tie.Need-slice-aggregate-put-called
 slice-aggregate-put-called c =
-    sym (length-take-le _ _ (count-within c.before.before.before.before.before.before.before.before.before.args.line.now _ _ (sym c.before.before.before.before.before.before.before.refused-by.ensures ∙ c.before.before.before.before.before.before.if1.false) c.before.before.before.before.before.coefficients-of.ensures c.before.before.before.before.count_of.ensures.0))
+    sym (length-take-le _ _ (count-within c.before.before.before.before.before.before.before.before.before.args.line.now _ _ (sym c.before.before.before.before.before.before.before.refusal.ensures ∙ c.before.before.before.before.before.before.if1.false) c.before.before.before.before.before.coefficients-of.ensures c.before.before.before.before.count_of.ensures.0))
 
 put-called-requires : tie.Need-put-called-requires
 put-called-requires c κs = search rules
@@ -51,13 +51,13 @@ put-called-requires c κs = search rules
 returns-2 : tie.Need-returns-2
 returns-2 c =
     let s = c.put-called.ensures in
-    line-called c.before.before.before.before.before.before.before.before.before.before.args.line.now _ _ _ _ _ (sym c.before.before.before.before.before.before.before.before.refused-by.ensures ∙ c.before.before.before.before.before.before.before.if1.false) c.before.before.before.kind-of.ensures c.before.before.polynomial-of.ensures c.before.before.before.before.before.before.coefficients-of.ensures c.before.before.before.before.before.count_of.ensures.0 s.0 s.1
+    line-called c.before.before.before.before.before.before.before.before.before.before.args.line.now _ _ _ _ _ (sym c.before.before.before.before.before.before.before.before.refusal.ensures ∙ c.before.before.before.before.before.before.before.if1.false) c.before.before.before.kind-of.ensures c.before.before.polynomial-of.ensures c.before.before.before.before.before.before.coefficients-of.ensures c.before.before.before.before.before.count_of.ensures.0 s.0 s.1
 
 pub put-answer-spec : {M : Type 1} → statement M
 put-answer-spec =
     tie.close
     (tie.spec
-    refused-by-requires
+    refusal-requires
     put-refusal-requires
     returns
     coefficients-of-requires

@@ -1,0 +1,116 @@
+// The tests that a public call begins with, in the order of the table of numbers; 0 where none applies.
+ghost use Rattle.std.specs.Prelude.{◌≡◌, ◌&&◌, eqb, pos};
+ghost use Rattle.std.specs.Int.Signed.{lt_z};
+ghost use Rattle.binary.specs.Factor.{degreeOf};
+ghost use Rattle.field.specs.Accepted.{Accepted};
+ghost use Rattle.field.specs.Refusal.{refusal, tooLarge, anyTooLarge, wrongCount, polynomialTests, listTests, elementTests, elementsTests};
+
+use crate::limits::{POLYNOMIAL_CEILING, POLYNOMIAL_FLOOR};
+use crate::refused;
+use arithmetic::inner::power::is_negative;
+use binary::inner::digit::{degree, power_of_two};
+use binary::inner::factor::factor_free;
+
+// The degree m of an accepted polynomial.
+pub fn degree_of(p: u32) -> u32
+    requires { Accepted p }
+    ensures { result ≡ degreeOf p }
+{
+    degree(p)
+}
+
+pub fn of_polynomial(p: u32) -> u32
+    ensures { result ≡ refusal (polynomialTests p) }
+{
+    if p < POLYNOMIAL_FLOOR {
+        return refused::OUT_OF_RANGE;
+    }
+    if POLYNOMIAL_CEILING <= p {
+        return refused::OUT_OF_RANGE;
+    }
+    if factor_free(p, degree(p)) {
+        return 0;
+    }
+    refused::HAS_FACTOR
+}
+
+// Whether a is no element of the field: 2^m or more.
+fn too_large(p: u32, a: u32) -> bool
+    requires { Accepted p }
+    ensures { result ≡ tooLarge p a }
+{
+    power_of_two(degree_of(p)) <= a
+}
+
+// Whether there are no coefficients, or more than there may be.
+pub fn wrong_count(most: usize, count: usize) -> bool
+    ensures { result ≡ wrongCount most count }
+{
+    if count == 0 {
+        return true;
+    }
+    most < count
+}
+
+// Whether one of the coefficients is no element of the field.
+fn any_too_large(p: u32, coefficients: &[u32]) -> bool
+    requires { Accepted p }
+    ensures { result ≡ anyTooLarge p coefficients.now }
+{
+    for i in 0..coefficients.len() {
+        if too_large(p, coefficients[i]) {
+            return true;
+        }
+    }
+    false
+}
+
+// The number that a list of coefficients is turned down by: their count is wrong, or one of them is no element.
+pub fn of_list(p: u32, wrong: bool, coefficients: &[u32]) -> u32
+    requires { Accepted p }
+    ensures { result ≡ refusal (listTests p wrong coefficients.now) }
+{
+    if wrong {
+        return refused::WRONG_COUNT;
+    }
+    if any_too_large(p, coefficients) {
+        return refused::TOO_LARGE;
+    }
+    0
+}
+
+pub fn of_element(p: u32, a: u32) -> u32
+    ensures { result ≡ refusal (elementTests p a) }
+{
+    let refused = of_polynomial(p);
+    if refused != 0 {
+        return refused;
+    }
+    if too_large(p, a) {
+        return refused::TOO_LARGE;
+    }
+    0
+}
+
+pub fn of_elements(p: u32, a: u32, b: u32) -> u32
+    ensures { result ≡ refusal (elementsTests p a b) }
+{
+    let refused = of_element(p, a);
+    if refused != 0 {
+        return refused;
+    }
+    if too_large(p, b) {
+        return refused::TOO_LARGE;
+    }
+    0
+}
+
+// Whether a power is 0 to a negative exponent.
+pub fn zero_to_negative(a: u32, e: i32) -> bool
+    ensures { result ≡ (eqb a 0 && lt_z e (pos 0)) }
+{
+    if a == 0 {
+        return is_negative(e);
+    }
+    false
+}
