@@ -1,4 +1,4 @@
--- How many directions there can be: an equation whose highest term is x^(2^i) has at most i (`directions-at-most`). Assumes nothing.
+-- How many directions there can be: an equation whose highest term is x^(2^i) has at most i (`directions_at_most`). Assumes nothing.
 use mathlib.Core.Path.{◌≡◌, sym, ap, ◌∙◌, subst}
 use mathlib.Core.Logic.{◌≢◌}
 use mathlib.Core.Bool.{true}
@@ -8,21 +8,21 @@ use native.Mathlib.Omega.{arith}
 use native.Mathlib.Decide.{dec_le}
 use lib.ListN.{length}
 use lib.Pow.{pow_pos, pow-lt}
-use Rattle.algebra.specs.Search.{someBelow}
+use Rattle.algebra.specs.Search.{some_below}
 use Rattle.algebra.proofs.Search.{some_one}
-use Rattle.algebra.proofs.Ascending.{ascending-nodup}
+use Rattle.algebra.proofs.Ascending.{ascending_nodup}
 use Rattle.binary.specs.Xor.{◌⊕◌}
-use Rattle.binary.specs.Factor.{degreeOf}
+use Rattle.binary.specs.Factor.{degree_of}
 use Rattle.binary.proofs.Xor.{zero_xor}
-use Rattle.binary.proofs.Additive.{additive-zero}
+use Rattle.binary.proofs.Additive.{additive_zero}
 use Rattle.galois.specs.Polynomial.{Coeffs, AllZero}
-use Rattle.galois.specs.Affine.{linearAt, affineAt}
-use Rattle.galois.proofs.Affine.{linearAt-xor, linearAt-zeros}
-use Rattle.galois.proofs.AffineList.{affine-few}
+use Rattle.galois.specs.Affine.{linear_at, affine_at}
+use Rattle.galois.proofs.Affine.{linear_at-xor, linear_at_zeros}
+use Rattle.galois.proofs.AffineList.{affine_few}
 use Rattle.field.specs.Accepted.{Accepted}
-use Rattle.affine.specs.Equation.{isRoot, isDirection, allRoots, directionsOf}
-use Rattle.affine.proofs.Matrix.{root-test}
-use Rattle.affine.proofs.Theorems.{roots-exactly, roots-ascending, root-count}
+use Rattle.affine.specs.Equation.{is_root, is_direction, all_roots, directions_of}
+use Rattle.affine.proofs.Matrix.{root_test}
+use Rattle.affine.proofs.Theorems.{roots_exactly, roots_ascending, root_count_lem}
 
 power_le : (a b : ℕ) → 2 ^ a ≤ 2 ^ b → a ≤ b
 power_le a b h = go (dec_le a b)
@@ -33,7 +33,7 @@ power_le a b h = go (dec_le a b)
 
 module _ (p : ℕ) (A : Accepted p) where
   abbrev m : ℕ
-  m = degreeOf p
+  m = degree_of p
 
   -- highest term l·x^(2^i), i the number of coefficients ks before it; zeros may follow
   module _ (ks : List ℕ) (l : ℕ) (zs : List ℕ) (small : Coeffs m (0 ∷ (ks ++ l ∷ []))) (nonzero : l ≢ 0) (z : AllZero zs) where
@@ -41,20 +41,20 @@ module _ (p : ℕ) (A : Accepted p) where
     abbrev zeroed : List ℕ
     zeroed = 0 ∷ ((ks ++ l ∷ []) ++ zs)
 
-    has-zero : someBelow (isRoot p zeroed) (2 ^ m) ≡ true
-    unfolding affineAt
-    has-zero =
-        some_one (isRoot p zeroed) (2 ^ m) 0 (pow_pos m)
-        ((root-test p zeroed 0).1 (ap (λ (v : ℕ). 0 ⊕ v) (additive-zero _ (linearAt-xor m p A.ready.field ((ks ++ l ∷ []) ++ zs))) ∙ zero_xor 0))
+    has_zero : some_below (is_root p zeroed) (2 ^ m) ≡ true
+    unfolding affine_at
+    has_zero =
+        some_one (is_root p zeroed) (2 ^ m) 0 (pow_pos m)
+        ((root_test p zeroed 0).1 (ap (λ (v : ℕ). 0 ⊕ v) (additive_zero _ (linear_at-xor m p A.ready.field ((ks ++ l ∷ []) ++ zs))) ∙ zero_xor 0))
 
-    roots_few : length (allRoots m p zeroed) ≤ 2 ^ length ks
-    unfolding affineAt
+    roots_few : length (all_roots m p zeroed) ≤ 2 ^ length ks
+    unfolding affine_at
     roots_few =
-        affine-few m p A.ready.field 0 ks l small nonzero (allRoots m p zeroed) (ascending-nodup (allRoots m p zeroed) (roots-ascending p A zeroed))
-        (λ r h. let e = (roots-exactly p A zeroed r).0 h in
-        (e.0, ap (λ (v : ℕ). 0 ⊕ v) (sym (linearAt-zeros p (ks ++ l ∷ []) zs r z)) ∙ e.1))
+        affine_few m p A.ready.field 0 ks l small nonzero (all_roots m p zeroed) (ascending_nodup (all_roots m p zeroed) (roots_ascending p A zeroed))
+        (λ r h. let e = (roots_exactly p A zeroed r).0 h in
+        (e.0, ap (λ (v : ℕ). 0 ⊕ v) (sym (linear_at_zeros p (ks ++ l ∷ []) zs r z)) ∙ e.1))
 
-    pub directions-at-most : (c : ℕ) → length (directionsOf m p (c ∷ ((ks ++ l ∷ []) ++ zs))) ≤ length ks
-    unfolding directionsOf isDirection
-    directions-at-most c =
-        power_le (length (directionsOf m p zeroed)) (length ks) (subst (λ (n : ℕ). n ≤ 2 ^ length ks) (root-count p A zeroed has-zero) roots_few)
+    pub directions_at_most : (c : ℕ) → length (directions_of m p (c ∷ ((ks ++ l ∷ []) ++ zs))) ≤ length ks
+    unfolding directions_of is_direction
+    directions_at_most c =
+        power_le (length (directions_of m p zeroed)) (length ks) (subst (λ (n : ℕ). n ≤ 2 ^ length ks) (root_count_lem p A zeroed has_zero) roots_few)

@@ -1,53 +1,53 @@
--- What has passed the tests of an equation (`equation-ready`), and the part of it after its first coefficient. Assumes nothing.
+-- What has passed the tests of an equation (`equation_ready`), and the part of it after its first coefficient. Assumes nothing.
 use mathlib.Core.Path.{◌≡◌, refl, sym, subst}
 use mathlib.Core.List.{List, [], ◌∷◌}
 use Prim.Native.Nat.{ℕ, ◌+◌, ◌-◌, ◌≤◌}
 use native.Mathlib.Omega.{arith}
 use lib.ListN.{length, take, drop, length-drop}
 use lib.Seq.{take_all}
-use Rattle.binary.specs.Factor.{degreeOf}
+use Rattle.binary.specs.Factor.{degree_of}
 use Rattle.galois.specs.Polynomial.{Coeffs}
 use Rattle.field.specs.Accepted.{Accepted}
 use Rattle.field.specs.Refusal.{Test, refusal}
 use Rattle.field.proofs.Refusal.{passes, accepted}
-use Rattle.field.proofs.Coefficients.{count-some, count-few, coefficients-small}
+use Rattle.field.proofs.Coefficients.{count_some, count_few, coefficients_small}
 use Rattle.affine.specs.Equation.{Ready}
-use Rattle.affine.specs.Calls.{equationTests}
+use Rattle.affine.specs.Calls.{equation_tests}
 
 -- what has passed
-equation-accepted : (p : ℕ) (cs : List ℕ) → refusal (equationTests p cs) ≡ 0 → Accepted p
-equation-accepted p cs e =
-    let t = passes (equationTests p cs) tt e in
+equation_accepted : (p : ℕ) (cs : List ℕ) → refusal (equation_tests p cs) ≡ 0 → Accepted p
+equation_accepted p cs e =
+    let t = passes (equation_tests p cs) tt e in
     accepted p (rw (t.0, t.1.0) refl)
 
-pub equation-ready : (p : ℕ) (cs : List ℕ) → refusal (equationTests p cs) ≡ 0 → Ready (degreeOf p) p cs
-equation-ready p cs e =
-    let t = passes (equationTests p cs) tt e in
-    let A = equation-accepted p cs e in
+pub equation_ready : (p : ℕ) (cs : List ℕ) → refusal (equation_tests p cs) ≡ 0 → Ready (degree_of p) p cs
+equation_ready p cs e =
+    let t = passes (equation_tests p cs) tt e in
+    let A = equation_accepted p cs e in
     record {
       field = A.ready;
       largest = A.largest;
-      some = count-some (degreeOf p + 1) (length cs) t.1.1.0;
-      few = count-few (degreeOf p + 1) (length cs) t.1.1.0;
-      small = coefficients-small p cs t.1.1.1.0;
+      some = count_some (degree_of p + 1) (length cs) t.1.1.0;
+      few = count_few (degree_of p + 1) (length cs) t.1.1.0;
+      small = coefficients_small p cs t.1.1.1.0;
     }
 
-pub ready_at : (m p : ℕ) (cs : List ℕ) → m ≡ degreeOf p → Ready (degreeOf p) p cs → Ready m p cs
+pub ready_at : (m p : ℕ) (cs : List ℕ) → m ≡ degree_of p → Ready (degree_of p) p cs → Ready m p cs
 ready_at m p cs d R = subst (λ (k : ℕ). Ready k p cs) (sym d) R
 
-pub ready-accepted : (p : ℕ) (cs : List ℕ) → Ready (degreeOf p) p cs → Accepted p
-ready-accepted p cs R = record { ready = R.field; largest = R.largest }
+pub ready_accepted : (p : ℕ) (cs : List ℕ) → Ready (degree_of p) p cs → Accepted p
+ready_accepted p cs R = record { ready = R.field; largest = R.largest }
 
 -- the part of the slice after the first coefficient
 module _ (m p : ℕ) (cs : List ℕ) (R : Ready m p cs) where
-  pub part-is : take (length cs - 1) (drop 1 cs) ≡ drop 1 cs
-  part-is = take_all (length cs - 1) (drop 1 cs) (let e = length-drop 1 cs in omega arith)
+  pub part_is : take (length cs - 1) (drop 1 cs) ≡ drop 1 cs
+  part_is = take_all (length cs - 1) (drop 1 cs) (let e = length-drop 1 cs in omega arith)
 
   part_small : (ds : List ℕ) → Coeffs m ds → Coeffs m (drop 1 ds)
   part_small [] h = tt
   part_small (d ∷ ds) h = h.1
 
-  pub part-ready : (length (take (length cs - 1) (drop 1 cs)) ≤ m) × Coeffs m (take (length cs - 1) (drop 1 cs))
-  part-ready =
-      rw part-is
+  pub part_ready : (length (take (length cs - 1) (drop 1 cs)) ≤ m) × Coeffs m (take (length cs - 1) (drop 1 cs))
+  part_ready =
+      rw part_is
       (let e = length-drop 1 cs in omega (arith, R.few), part_small cs R.small)

@@ -3,10 +3,10 @@ use Rattle.std.specs.Prelude.{◌≡◌, List, ℕ, ◌^◌, ◌<◌, get_or}
 use Rattle.binary.specs.Xor.{◌⊕◌}
 use Rattle.binary.specs.Product.{product}
 use Rattle.galois.specs.Power.{squares}
-use Rattle.galois.specs.Affine.{linearAt}
+use Rattle.galois.specs.Affine.{linear_at}
 
 abbrev pub IsColumns : ℕ → ℕ → List ℕ → List ℕ → Type 0
-IsColumns m p ls columns = (j : ℕ) → j < m → get_or columns j 0 ≡ linearAt p ls (2 ^ j)
+IsColumns m p ls columns = (j : ℕ) → j < m → get_or columns j 0 ≡ linear_at p ls (2 ^ j)
 
 -- the columns with the term l·x^(2^i) added
 abbrev pub PlusTerm : ℕ → ℕ → ℕ → ℕ → List ℕ → List ℕ → Type 0

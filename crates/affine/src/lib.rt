@@ -1,9 +1,9 @@
 // Affine equations c + l0·x + l1·x^2 + l2·x^4 + .. over GF(2^m): the public calls. Each takes the field polynomial and the coefficients, c
 // first, and tests them; none asks anything of its caller, and each answers by its definition in specs/Calls, for every input.
 ghost use Rattle.std.specs.Prelude.{◌≡◌, length};
-ghost use Rattle.field.specs.Answers.{ofElement};
-ghost use Rattle.affine.specs.Answers.{ofAffine, ofCount};
-ghost use Rattle.affine.specs.Calls.{solveAnswer, placeOutcome, listingOutcome, listingAfter};
+ghost use Rattle.field.specs.Answers.{of_element};
+ghost use Rattle.affine.specs.Answers.{of_affine, of_count};
+ghost use Rattle.affine.specs.Calls.{solve_answer, place_outcome, listing_outcome, listing_after};
 
 pub mod inner;
 
@@ -38,7 +38,7 @@ pub enum CountAnswer {
 
 // All roots, as base and directions.
 pub fn solve(p: u32, coefficients: &[u32]) -> AffineAnswer
-    ensures { ofAffine result ≡ solveAnswer p coefficients.now }
+    ensures { of_affine result ≡ solve_answer p coefficients.now }
 {
     let refused = equation::refusal(p, coefficients);
     if refused != 0 {
@@ -53,7 +53,7 @@ pub fn solve(p: u32, coefficients: &[u32]) -> AffineAnswer
 
 // The root at place n, from 0, in ascending order.
 pub fn root_at_place(p: u32, coefficients: &[u32], n: u32) -> ElementAnswer
-    ensures { ofElement result ≡ placeOutcome p coefficients.now n }
+    ensures { of_element result ≡ place_outcome p coefficients.now n }
 {
     let refused = equation::refusal(p, coefficients);
     if refused != 0 {
@@ -69,8 +69,8 @@ pub fn root_at_place(p: u32, coefficients: &[u32], n: u32) -> ElementAnswer
 
 // All roots, ascending, at the front of the lent list; the entries after them stay as they were.
 pub fn list_roots(p: u32, coefficients: &[u32], list: &mut [Entry]) -> CountAnswer
-    ensures result_value { ofCount result ≡ listingOutcome p coefficients.now (length list.old) }
-    ensures list_after { list.new ≡ listingAfter p coefficients.now list.old }
+    ensures result_value { of_count result ≡ listing_outcome p coefficients.now (length list.old) }
+    ensures list_after { list.new ≡ listing_after p coefficients.now list.old }
 {
     let refused = equation::refusal(p, coefficients);
     if refused != 0 {

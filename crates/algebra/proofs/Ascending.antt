@@ -1,4 +1,4 @@
--- B3, `same-ascending`: two strictly ascending lists with the same entries are equal. Assumes nothing.
+-- B3, `same_ascending`: two strictly ascending lists with the same entries are equal. Assumes nothing.
 use mathlib.Core.Path.{◌≡◌, refl, sym, ap₂}
 use mathlib.Core.Logic.{◌⊎◌, inl, inr}
 use mathlib.Core.List.{List, [], ◌∷◌}
@@ -11,13 +11,13 @@ above b [] r y h = absurd h
 above b (x ∷ xs) r y (inl e) = let l = r.0 in omega arith
 above b (x ∷ xs) r y (inr h) = let l = r.0 in let k = above x xs r.1 y h in omega arith
 
-pub rising-ascending : (b : ℕ) (xs : List ℕ) → Rising b xs → Ascending xs
-rising-ascending b [] r = tt
-rising-ascending b (x ∷ xs) r = (above x xs r.1, rising-ascending x xs r.1)
+pub rising_ascending : (b : ℕ) (xs : List ℕ) → Rising b xs → Ascending xs
+rising_ascending b [] r = tt
+rising_ascending b (x ∷ xs) r = (above x xs r.1, rising_ascending x xs r.1)
 
-pub ascending-nodup : (xs : List ℕ) → Ascending xs → Nodup xs
-ascending-nodup [] a = tt
-ascending-nodup (x ∷ xs) a = (λ h. let l = a.0 x h in omega arith, ascending-nodup xs a.1)
+pub ascending_nodup : (xs : List ℕ) → Ascending xs → Nodup xs
+ascending_nodup [] a = tt
+ascending_nodup (x ∷ xs) a = (λ h. let l = a.0 x h in omega arith, ascending_nodup xs a.1)
 
 heads : (x y : ℕ) (xs ys : List ℕ) → Ascending (x ∷ xs) → Ascending (y ∷ ys) → Within (x ∷ xs) (y ∷ ys) → Within (y ∷ ys) (x ∷ xs) → x ≡ y
 heads x y xs ys a b v w = go (v x (inl refl)) (w y (inl refl))
@@ -34,10 +34,10 @@ tails x y xs ys a e v z h = go (v z (inr h))
     go (inl k) = let l = a.0 z h in absurd (omega arith)
     go (inr k) = k
 
-pub same-ascending : (xs ys : List ℕ) → Ascending xs → Ascending ys → Within xs ys → Within ys xs → xs ≡ ys
-same-ascending [] [] a b v w = refl
-same-ascending [] (y ∷ ys) a b v w = absurd (w y (inl refl))
-same-ascending (x ∷ xs) [] a b v w = absurd (v x (inl refl))
-same-ascending (x ∷ xs) (y ∷ ys) a b v w =
+pub same_ascending : (xs ys : List ℕ) → Ascending xs → Ascending ys → Within xs ys → Within ys xs → xs ≡ ys
+same_ascending [] [] a b v w = refl
+same_ascending [] (y ∷ ys) a b v w = absurd (w y (inl refl))
+same_ascending (x ∷ xs) [] a b v w = absurd (v x (inl refl))
+same_ascending (x ∷ xs) (y ∷ ys) a b v w =
     let e = heads x y xs ys a b v w in
-    ap₂ ◌∷◌ e (same-ascending xs ys a.1 b.1 (tails x y xs ys a e v) (tails y x ys xs b (sym e) w))
+    ap₂ ◌∷◌ e (same_ascending xs ys a.1 b.1 (tails x y xs ys a e v) (tails y x ys xs b (sym e) w))

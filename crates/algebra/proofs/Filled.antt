@@ -27,13 +27,13 @@ filled_put f old out k v l e i =
     }
 
 -- an entry changed where it stands, to g of its place and of what it was
-pub filled-change : (g : ℕ → ℕ → ℕ) (old out : List ℕ) (k v : ℕ) → k < length old → v ≡ g k (get_or out k 0) → Filled (λ j. g j (get_or old j 0)) old out k
+pub filled_change : (g : ℕ → ℕ → ℕ) (old out : List ℕ) (k v : ℕ) → k < length old → v ≡ g k (get_or out k 0) → Filled (λ j. g j (get_or old j 0)) old out k
     → Filled (λ j. g j (get_or old j 0)) old (set out k v) (k + 1)
-filled-change g old out k v l e i = filled_put _ old out k v l (e ∙ ap (g k) (i.rest k (omega arith))) i
+filled_change g old out k v l e i = filled_put _ old out k v l (e ∙ ap (g k) (i.rest k (omega arith))) i
 
 -- all of it done: it is the list with these entries
-pub filled-all : (f : ℕ → ℕ) (old out l : List ℕ) (k : ℕ) → Filled f old out k → length old ≤ k → length l ≡ length old
+pub filled_all : (f : ℕ → ℕ) (old out l : List ℕ) (k : ℕ) → Filled f old out k → length old ≤ k → length l ≡ length old
     → ((j : ℕ) → j < length l → get_or l j 0 ≡ f j) → out ≡ l
-filled-all f old out l k i h e v =
+filled_all f old out l k i h e v =
     ext_get_or 0 out l (i.long ∙ sym e)
     (λ j g. let a : j < length l = omega (arith, i.long) in i.done j (omega (arith, i.long)) ∙ sym (v j a))

@@ -4,7 +4,7 @@ use mathlib.Core.Bool.{true}
 use Prim.Native.Nat.{ℕ}
 use Rattle.algebra.specs.Expression.{Expr, O, ◌⊕◌, ◌⊗◌, agree}
 use Rattle.algebra.specs.Ring.{Ring2}
-use Rattle.algebra.proofs.RingLaws.{mul-zer}
+use Rattle.algebra.proofs.RingLaws.{mul_zer}
 use Rattle.algebra.proofs.Normal.{eval, identity}
 
 module _ (R : Ring2) where
@@ -17,14 +17,14 @@ module _ (R : Ring2) where
   combo none = O
   combo (by c l r h g) = c ⊗ (l ⊕ r) ⊕ combo g
 
-  combo-ok : (ρ : ℕ → R.carrier) (g : Given ρ) → eval R ρ (combo g) ≡ R.zer
-  combo-ok ρ none = refl
-  combo-ok ρ (by c l r h g) =
+  combo_ok : (ρ : ℕ → R.carrier) (g : Given ρ) → eval R ρ (combo g) ≡ R.zer
+  combo_ok ρ none = refl
+  combo_ok ρ (by c l r h g) =
       ap₂ R.add
-      (ap (R.mul (eval R ρ c)) (ap (λ (x : R.carrier). R.add x (eval R ρ r)) h ∙ R.add-self (eval R ρ r)) ∙ mul-zer R (eval R ρ c))
-      (combo-ok ρ g)
-      ∙ R.add-zer R.zer
+      (ap (R.mul (eval R ρ c)) (ap (λ (x : R.carrier). R.add x (eval R ρ r)) h ∙ R.add_self (eval R ρ r)) ∙ mul_zer R (eval R ρ c))
+      (combo_ok ρ g)
+      ∙ R.add_zer R.zer
 
-  pub identity-given : (ρ : ℕ → R.carrier) (e f : Expr) (g : Given ρ) → agree (e ⊕ combo g) f ≡ true → eval R ρ e ≡ eval R ρ f
-  identity-given ρ e f g h =
-      sym (R.add-zer (eval R ρ e)) ∙ ap (R.add (eval R ρ e)) (sym (combo-ok ρ g)) ∙ identity R (e ⊕ combo g) f ρ h
+  pub identity_given : (ρ : ℕ → R.carrier) (e f : Expr) (g : Given ρ) → agree (e ⊕ combo g) f ≡ true → eval R ρ e ≡ eval R ρ f
+  identity_given ρ e f g h =
+      sym (R.add_zer (eval R ρ e)) ∙ ap (R.add (eval R ρ e)) (sym (combo_ok ρ g)) ∙ identity R (e ⊕ combo g) f ρ h

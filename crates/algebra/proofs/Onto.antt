@@ -1,4 +1,4 @@
--- B1: injective on a finite set is onto: `onto` for a list without repetition, `onto-below` for the numbers below n, `onto-test` for
+-- B1: injective on a finite set is onto: `onto` for a list without repetition, `onto_below` for the numbers below n, `onto_test` for
 -- those below n that pass a test. Assumes nothing.
 use mathlib.Core.Path.{◌≡◌, refl, sym, ap, ap₂, ◌∙◌, subst}
 use mathlib.Core.Logic.{◌⊎◌, inl, inr}
@@ -30,31 +30,31 @@ to_map f (z ∷ xs) x (inl e) = inl (ap f e)
 to_map f (z ∷ xs) x (inr h) = inr (to_map f xs x h)
 
 -- two functions that agree on the entries make the same list
-pub map-alike : (f g : ℕ → ℕ) (xs : List ℕ) → ((x : ℕ) → Member x xs → f x ≡ g x) → map f xs ≡ map g xs
-map-alike f g [] h = refl
-map-alike f g (x ∷ xs) h = ap₂ ◌∷◌ (h x (inl refl)) (map-alike f g xs (λ y k. h y (inr k)))
+pub map_alike : (f g : ℕ → ℕ) (xs : List ℕ) → ((x : ℕ) → Member x xs → f x ≡ g x) → map f xs ≡ map g xs
+map_alike f g [] h = refl
+map_alike f g (x ∷ xs) h = ap₂ ◌∷◌ (h x (inl refl)) (map_alike f g xs (λ y k. h y (inr k)))
 
-pub map-nodup : (f : ℕ → ℕ) (xs : List ℕ) → Nodup xs
+pub map_nodup : (f : ℕ → ℕ) (xs : List ℕ) → Nodup xs
     → ((x y : ℕ) → Member x xs → Member y xs → f x ≡ f y → x ≡ y) → Nodup (map f xs)
-map-nodup f [] d i = tt
-map-nodup f (x ∷ xs) d i = (
+map_nodup f [] d i = tt
+map_nodup f (x ∷ xs) d i = (
   λ h. let r = of_map f xs (f x) h in
       d.0 (subst (λ (v : ℕ). Member v xs) (sym (i x r.0 (inl refl) (inr r.1) r.2)) r.1),
-  map-nodup f xs d.1 (λ a b ha hb e. i a b (inr ha) (inr hb) e),
+  map_nodup f xs d.1 (λ a b ha hb e. i a b (inr ha) (inr hb) e),
 )
 
 module _ (S : List ℕ) (d : Nodup S) (f : ℕ → ℕ) (J : InjectiveOn S f) where
-  pub image-nodup : Nodup (map f S)
-  image-nodup = map-nodup f S d J.apart
+  pub image_nodup : Nodup (map f S)
+  image_nodup = map_nodup f S d J.apart
 
-  pub image-within : Within (map f S) S
-  image-within y h = let r = of_map f S y h in subst (λ (v : ℕ). Member v S) (sym r.2) (J.stays r.0 r.1)
+  pub image_within : Within (map f S) S
+  image_within y h = let r = of_map f S y h in subst (λ (v : ℕ). Member v S) (sym r.2) (J.stays r.0 r.1)
 
-  pub image-length : length S ≤ length (map f S)
-  image-length = rw length-map (le_refl (length S))
+  pub image_length : length S ≤ length (map f S)
+  image_length = rw length-map (le_refl (length S))
 
   pub onto : (y : ℕ) → Member y S → (x : ℕ) × Member x S × (y ≡ f x)
-  onto y h = of_map f S y (fills (map f S) S image-nodup image-within image-length y h)
+  onto y h = of_map f S y (fills (map f S) S image_nodup image_within image_length y h)
 
 pub below_length : (n : ℕ) → length (below n) ≡ n
 below_length zero = refl
@@ -68,18 +68,18 @@ to_below (suc n) x h = go (ℕ_discrete x n) (λ k. to_below n x k)
     go (yes e) k = inl e
     go (no f) k = inr (k (omega arith))
 
-pub of-below : (n x : ℕ) → Member x (below n) → x < n
-of-below zero x h = absurd h
-of-below (suc n) x (inl e) = omega arith
-of-below (suc n) x (inr h) = let r = of-below n x h in omega arith
+pub of_below : (n x : ℕ) → Member x (below n) → x < n
+of_below zero x h = absurd h
+of_below (suc n) x (inl e) = omega arith
+of_below (suc n) x (inr h) = let r = of_below n x h in omega arith
 
-pub below-nodup : (n : ℕ) → Nodup (below n)
-below-nodup zero = tt
-below-nodup (suc n) = (λ h. let r = of-below n n h in omega arith, below-nodup n)
+pub below_nodup : (n : ℕ) → Nodup (below n)
+below_nodup zero = tt
+below_nodup (suc n) = (λ h. let r = of_below n n h in omega arith, below_nodup n)
 
-pub of-keep : (t : ℕ → Bool) (xs : List ℕ) (y : ℕ) → Member y (keep t xs) → Member y xs × T (t y)
-of-keep t [] y h = absurd h
-of-keep t (x ∷ xs) y h = go (t x) refl h (λ k. of-keep t xs y k)
+pub of_keep : (t : ℕ → Bool) (xs : List ℕ) (y : ℕ) → Member y (keep t xs) → Member y xs × T (t y)
+of_keep t [] y h = absurd h
+of_keep t (x ∷ xs) y h = go (t x) refl h (λ k. of_keep t xs y k)
   where
     go : (b : Bool) → t x ≡ b → Member y (elim b as (λ (_ : Bool). List ℕ) [ true ↦ x ∷ keep t xs | false ↦ keep t xs ])
         → (Member y (keep t xs) → Member y xs × T (t y)) → ((y ≡ x) ⊎ Member y xs) × T (t y)
@@ -87,9 +87,9 @@ of-keep t (x ∷ xs) y h = go (t x) refl h (λ k. of-keep t xs y k)
     go true e (inr k) ih = let r = ih k in (inr r.0, r.1)
     go false e k ih = let r = ih k in (inr r.0, r.1)
 
-pub to-keep : (t : ℕ → Bool) (xs : List ℕ) (y : ℕ) → Member y xs → T (t y) → Member y (keep t xs)
-to-keep t [] y h p = h
-to-keep t (x ∷ xs) y h p = go (t x) refl h (λ k. to-keep t xs y k p)
+pub to_keep : (t : ℕ → Bool) (xs : List ℕ) (y : ℕ) → Member y xs → T (t y) → Member y (keep t xs)
+to_keep t [] y h p = h
+to_keep t (x ∷ xs) y h p = go (t x) refl h (λ k. to_keep t xs y k p)
   where
     go : (b : Bool) → t x ≡ b → (y ≡ x) ⊎ Member y xs → (Member y xs → Member y (keep t xs))
         → Member y (elim b as (λ (_ : Bool). List ℕ) [ true ↦ x ∷ keep t xs | false ↦ keep t xs ])
@@ -98,34 +98,34 @@ to-keep t (x ∷ xs) y h p = go (t x) refl h (λ k. to-keep t xs y k p)
     go false e (inl k) ih = absurd (subst T (ap t k ∙ e) p)
     go false e (inr k) ih = ih k
 
-pub keep-nodup : (t : ℕ → Bool) (xs : List ℕ) → Nodup xs → Nodup (keep t xs)
-keep-nodup t [] d = tt
-keep-nodup t (x ∷ xs) d = go (t x) (keep-nodup t xs d.1)
+pub keep_nodup : (t : ℕ → Bool) (xs : List ℕ) → Nodup xs → Nodup (keep t xs)
+keep_nodup t [] d = tt
+keep_nodup t (x ∷ xs) d = go (t x) (keep_nodup t xs d.1)
   where
     go : (b : Bool) → Nodup (keep t xs) → Nodup (elim b as (λ (_ : Bool). List ℕ) [ true ↦ x ∷ keep t xs | false ↦ keep t xs ])
-    go true r = (λ h. d.0 (of-keep t xs x h).0, r)
+    go true r = (λ h. d.0 (of_keep t xs x h).0, r)
     go false r = r
 
 -- B1 for the numbers below n
-pub onto-below : (n : ℕ) (f : ℕ → ℕ) → ((x : ℕ) → x < n → f x < n) → ((x y : ℕ) → x < n → y < n → f x ≡ f y → x ≡ y)
+pub onto_below : (n : ℕ) (f : ℕ → ℕ) → ((x : ℕ) → x < n → f x < n) → ((x y : ℕ) → x < n → y < n → f x ≡ f y → x ≡ y)
     → (y : ℕ) → y < n → (x : ℕ) × (x < n) × (y ≡ f x)
-onto-below n f s i y h =
-    let r = onto (below n) (below-nodup n) f
-    (record { stays = λ x k. to_below n (f x) (s x (of-below n x k)); apart = λ x z hx hz e. i x z (of-below n x hx) (of-below n z hz) e })
+onto_below n f s i y h =
+    let r = onto (below n) (below_nodup n) f
+    (record { stays = λ x k. to_below n (f x) (s x (of_below n x k)); apart = λ x z hx hz e. i x z (of_below n x hx) (of_below n z hz) e })
     y (to_below n y h) in
-    (r.0, of-below n r.0 r.1, r.2)
+    (r.0, of_below n r.0 r.1, r.2)
 
 -- and for those below n that pass a test
-pub onto-test : (n : ℕ) (t : ℕ → Bool) (f : ℕ → ℕ) → ((x : ℕ) → x < n → T (t x) → (f x < n) × T (t (f x)))
+pub onto_test : (n : ℕ) (t : ℕ → Bool) (f : ℕ → ℕ) → ((x : ℕ) → x < n → T (t x) → (f x < n) × T (t (f x)))
     → ((x y : ℕ) → x < n → y < n → T (t x) → T (t y) → f x ≡ f y → x ≡ y)
     → (y : ℕ) → y < n → T (t y) → (x : ℕ) × (x < n) × T (t x) × (y ≡ f x)
-onto-test n t f s i y h p =
-    let r = onto (keep t (below n)) (keep-nodup t (below n) (below-nodup n)) f
+onto_test n t f s i y h p =
+    let r = onto (keep t (below n)) (keep_nodup t (below n) (below_nodup n)) f
     (record {
-      stays = λ x k. let q = of-keep t (below n) x k in let v = s x (of-below n x q.0) q.1 in to-keep t (below n) (f x) (to_below n (f x) v.0) v.1;
-      apart = λ x z hx hz e. let q = of-keep t (below n) x hx in let v = of-keep t (below n) z hz in
-          i x z (of-below n x q.0) (of-below n z v.0) q.1 v.1 e;
+      stays = λ x k. let q = of_keep t (below n) x k in let v = s x (of_below n x q.0) q.1 in to_keep t (below n) (f x) (to_below n (f x) v.0) v.1;
+      apart = λ x z hx hz e. let q = of_keep t (below n) x hx in let v = of_keep t (below n) z hz in
+          i x z (of_below n x q.0) (of_below n z v.0) q.1 v.1 e;
     })
-    y (to-keep t (below n) y (to_below n y h) p) in
-    let q = of-keep t (below n) r.0 r.1 in
-    (r.0, of-below n r.0 q.0, q.1, r.2)
+    y (to_keep t (below n) y (to_below n y h) p) in
+    let q = of_keep t (below n) r.0 r.1 in
+    (r.0, of_below n r.0 q.0, q.1, r.2)

@@ -1,6 +1,6 @@
--- Lists in so many places: the entries of a padded list (`padded-at`, `padded-length`); one filled in order (`filled-padded`)
--- or changed in order (`filled-mapped`); one written
--- from the front (`put_next`, `put_last`) or from the end (`put-before`). Assumes nothing.
+-- Lists in so many places: the entries of a padded list (`padded_at`, `padded-length`); one filled in order (`filled_padded`)
+-- or changed in order (`filled_mapped`); one written
+-- from the front (`put_next`, `put_last`) or from the end (`put_before`). Assumes nothing.
 use mathlib.Core.Path.{◌≡◌, refl, sym, ap, ◌∙◌}
 use mathlib.Core.List.{List, [], ◌∷◌, ◌++◌, map}
 use Prim.Native.Nat.{ℕ, zero, suc, ◌+◌, ◌-◌, ◌≤◌, ◌<◌}
@@ -16,35 +16,35 @@ map_at g [] i h = absurd (omega arith)
 map_at g (x ∷ xs) zero h = refl
 map_at g (x ∷ xs) (suc i) h = map_at g xs i (omega arith)
 
-pub zeros-at : (n j : ℕ) → ◌≡◌ {A = ℕ} (get_or (replicate n 0) j 0) 0
-zeros-at zero j = refl
-zeros-at (suc n) zero = refl
-zeros-at (suc n) (suc j) = zeros-at n j
+pub zeros_at : (n j : ℕ) → ◌≡◌ {A = ℕ} (get_or (replicate n 0) j 0) 0
+zeros_at zero j = refl
+zeros_at (suc n) zero = refl
+zeros_at (suc n) (suc j) = zeros_at n j
 
 -- zeros after a list are what is read past its end
-pub append-zeros-at : (xs : List ℕ) (n j : ℕ) → get_or (xs ++ replicate n 0) j 0 ≡ get_or xs j 0
-append-zeros-at [] n j = zeros-at n j
-append-zeros-at (x ∷ xs) n zero = refl
-append-zeros-at (x ∷ xs) n (suc j) = append-zeros-at xs n j
+pub append_zeros_at : (xs : List ℕ) (n j : ℕ) → get_or (xs ++ replicate n 0) j 0 ≡ get_or xs j 0
+append_zeros_at [] n j = zeros_at n j
+append_zeros_at (x ∷ xs) n zero = refl
+append_zeros_at (x ∷ xs) n (suc j) = append_zeros_at xs n j
 
-pub padded-at : (n : ℕ) (xs : List ℕ) (j : ℕ) → get_or (padded n xs) j 0 ≡ get_or xs j 0
-padded-at n xs j = append-zeros-at xs (n - length xs) j
+pub padded_at : (n : ℕ) (xs : List ℕ) (j : ℕ) → get_or (padded n xs) j 0 ≡ get_or xs j 0
+padded_at n xs j = append_zeros_at xs (n - length xs) j
 
 pub padded-length : (n : ℕ) (xs : List ℕ) → length xs ≤ n → length (padded n xs) ≡ n
 padded-length n xs h = length-append xs (replicate (n - length xs) 0) ∙ ap (λ (k : ℕ). length xs + k) (length-replicate (n - length xs) 0) ∙ omega arith
 
-pub filled-padded : (n : ℕ) (xs out : List ℕ) (k : ℕ) → length xs ≤ n → length xs ≡ k → Filled (λ j. get_or xs j 0) (replicate n 0) out k → out ≡ padded n xs
-filled-padded n xs out k h e i =
+pub filled_padded : (n : ℕ) (xs out : List ℕ) (k : ℕ) → length xs ≤ n → length xs ≡ k → Filled (λ j. get_or xs j 0) (replicate n 0) out k → out ≡ padded n xs
+filled_padded n xs out k h e i =
     ext_get_or 0 out (padded n xs) (i.long ∙ length-replicate n 0 ∙ sym (padded-length n xs h))
-    (λ j l. at j (dec_lt j k) ∙ sym (padded-at n xs j))
+    (λ j l. at j (dec_lt j k) ∙ sym (padded_at n xs j))
   where
     at : (j : ℕ) → Dec (j < k) → get_or out j 0 ≡ get_or xs j 0
     at j (yes l) = i.done j l
-    at j (no l) = i.rest j (omega arith) ∙ zeros-at n j ∙ sym (get_or-eq_default xs 0 (omega arith))
+    at j (no l) = i.rest j (omega arith) ∙ zeros_at n j ∙ sym (get_or-eq_default xs 0 (omega arith))
 
 -- one changed entry by entry: its front is what the function makes of the old front
-pub filled-mapped : (g : ℕ → ℕ) (old out : List ℕ) (k : ℕ) → Filled (λ j. g (get_or old j 0)) old out k → take k out ≡ map g (take k old)
-filled-mapped g old out k i =
+pub filled_mapped : (g : ℕ → ℕ) (old out : List ℕ) (k : ℕ) → Filled (λ j. g (get_or old j 0)) old out k → take k out ≡ map g (take k old)
+filled_mapped g old out k i =
     ext_get_or 0 (take k out) (map g (take k old)) (a ∙ sym (length-map (take k old) g ∙ b))
     (λ j l. at j (omega (arith, a)))
   where
@@ -69,7 +69,7 @@ put_last l w i v h e =
     set_split l i v h ∙ sym (append_snoc (take i l) v (drop (suc i) l)) ∙ ap (λ (s : List ℕ). s ++ drop (suc i) l) e
 
 -- the end is done, and v comes before it
-pub put-before : (l t : List ℕ) (i v : ℕ) → i < length l → drop (suc i) l ≡ t → drop i (set l i v) ≡ v ∷ t
-put-before l t i v h e =
+pub put_before : (l t : List ℕ) (i v : ℕ) → i < length l → drop (suc i) l ≡ t → drop i (set l i v) ≡ v ∷ t
+put_before l t i v h e =
     drop-cons (set l i v) i 0 (omega (arith, length-set l i v))
     ∙ (λ j. get_or-set_same l i v 0 h j ∷ (drop-set-lt (suc i) l i v (omega arith) ∙ e) j)

@@ -10,8 +10,8 @@ module _ (R : Ring2) where
   pw x (suc n) = R.mul x (pw x n)
 
   -- the ring's laws, a little further
-  pub zer-add : (a : R.carrier) → R.add R.zer a ≡ a
-  zer-add a = R.add_comm R.zer a ∙ R.add-zer a
+  pub zer_add : (a : R.carrier) → R.add R.zer a ≡ a
+  zer_add a = R.add_comm R.zer a ∙ R.add_zer a
 
   pub one-mul : (a : R.carrier) → R.mul R.one a ≡ a
   one-mul a = R.mul_comm R.one a ∙ R.mul-one a
@@ -22,31 +22,31 @@ module _ (R : Ring2) where
   pub mul_left : (a b c : R.carrier) → R.mul a (R.mul b c) ≡ R.mul b (R.mul a c)
   mul_left a b c = sym (R.mul_assoc a b c) ∙ ap (λ (x : R.carrier). R.mul x c) (R.mul_comm a b) ∙ R.mul_assoc b a c
 
-  pub add-inter : (a b c d : R.carrier) → R.add (R.add a b) (R.add c d) ≡ R.add (R.add a c) (R.add b d)
-  add-inter a b c d = R.add_assoc a b (R.add c d) ∙ ap (R.add a) (add_left b c d) ∙ sym (R.add_assoc a c (R.add b d))
+  pub add_inter : (a b c d : R.carrier) → R.add (R.add a b) (R.add c d) ≡ R.add (R.add a c) (R.add b d)
+  add_inter a b c d = R.add_assoc a b (R.add c d) ∙ ap (R.add a) (add_left b c d) ∙ sym (R.add_assoc a c (R.add b d))
 
-  pub mul-inter : (a b c d : R.carrier) → R.mul (R.mul a b) (R.mul c d) ≡ R.mul (R.mul a c) (R.mul b d)
-  mul-inter a b c d = R.mul_assoc a b (R.mul c d) ∙ ap (R.mul a) (mul_left b c d) ∙ sym (R.mul_assoc a c (R.mul b d))
+  pub mul_inter : (a b c d : R.carrier) → R.mul (R.mul a b) (R.mul c d) ≡ R.mul (R.mul a c) (R.mul b d)
+  mul_inter a b c d = R.mul_assoc a b (R.mul c d) ∙ ap (R.mul a) (mul_left b c d) ∙ sym (R.mul_assoc a c (R.mul b d))
 
   pub cancel : (a b c : R.carrier) → R.add (R.add a b) (R.add a c) ≡ R.add b c
-  cancel a b c = add-inter a b a c ∙ ap (λ (x : R.carrier). R.add x (R.add b c)) (R.add-self a) ∙ zer-add (R.add b c)
+  cancel a b c = add_inter a b a c ∙ ap (λ (x : R.carrier). R.add x (R.add b c)) (R.add_self a) ∙ zer_add (R.add b c)
 
-  pub mul-zer : (a : R.carrier) → R.mul a R.zer ≡ R.zer
-  mul-zer a = ap (R.mul a) (sym (R.add-self R.zer)) ∙ R.mul-add a R.zer R.zer ∙ R.add-self (R.mul a R.zer)
+  pub mul_zer : (a : R.carrier) → R.mul a R.zer ≡ R.zer
+  mul_zer a = ap (R.mul a) (sym (R.add_self R.zer)) ∙ R.mul-add a R.zer R.zer ∙ R.add_self (R.mul a R.zer)
 
-  pub zer-mul : (a : R.carrier) → R.mul R.zer a ≡ R.zer
-  zer-mul a = R.mul_comm R.zer a ∙ mul-zer a
+  pub zer_mul : (a : R.carrier) → R.mul R.zer a ≡ R.zer
+  zer_mul a = R.mul_comm R.zer a ∙ mul_zer a
 
   pub add-mul : (a b c : R.carrier) → R.mul (R.add a b) c ≡ R.add (R.mul a c) (R.mul b c)
   add-mul a b c = R.mul_comm (R.add a b) c ∙ R.mul-add c a b ∙ ap₂ R.add (R.mul_comm c a) (R.mul_comm c b)
 
   -- the square of a sum
-  pub sq-add : (a b : R.carrier) → R.mul (R.add a b) (R.add a b) ≡ R.add (R.mul a a) (R.mul b b)
-  sq-add a b =
+  pub sq_add : (a b : R.carrier) → R.mul (R.add a b) (R.add a b) ≡ R.add (R.mul a a) (R.mul b b)
+  sq_add a b =
       add-mul a b (R.add a b)
       ∙ ap₂ R.add (R.mul-add a a b ∙ R.add_comm (R.mul a a) (R.mul a b)) (R.mul-add b a b ∙ ap (λ (x : R.carrier). R.add x (R.mul b b)) (R.mul_comm b a))
       ∙ cancel (R.mul a b) (R.mul a a) (R.mul b b)
 
-  pub pw-add : (x : R.carrier) (j k : ℕ) → pw x (j + k) ≡ R.mul (pw x j) (pw x k)
-  pw-add x zero k = ap (pw x) (zero-add k) ∙ sym (one-mul (pw x k))
-  pw-add x (suc j) k = ap (pw x) (suc-add j k) ∙ ap (R.mul x) (pw-add x j k) ∙ sym (R.mul_assoc x (pw x j) (pw x k))
+  pub pw_add : (x : R.carrier) (j k : ℕ) → pw x (j + k) ≡ R.mul (pw x j) (pw x k)
+  pw_add x zero k = ap (pw x) (zero-add k) ∙ sym (one-mul (pw x k))
+  pw_add x (suc j) k = ap (pw x) (suc-add j k) ∙ ap (R.mul x) (pw_add x j k) ∙ sym (R.mul_assoc x (pw x j) (pw x k))

@@ -8,13 +8,13 @@ unfoldable pub same : ℕ → ℕ → ℕ
 same a b = elim (ℕ_discrete a b) [ yes e ↦ 1 | no n ↦ 0 ]
 
 -- h 0 + .. + h (n - 1)
-unfoldable pub sumBelow : (ℕ → ℕ) → ℕ → ℕ
-sumBelow h zero = 0
-sumBelow h (suc n) = sumBelow h n + h n
+unfoldable pub sum_below : (ℕ → ℕ) → ℕ → ℕ
+sum_below h zero = 0
+sum_below h (suc n) = sum_below h n + h n
 
 -- the number of i < n with f i = y
 unfoldable pub fibre : (ℕ → ℕ) → ℕ → ℕ → ℕ
-fibre f n y = sumBelow (λ i. same (f i) y) n
+fibre f n y = sum_below (λ i. same (f i) y) n
 
 -- how often r stands in the list
 unfoldable pub count : ℕ → List ℕ → ℕ

@@ -32,9 +32,9 @@ below zero = []
 below (suc n) = n ∷ below n
 
 -- the n numbers from k on, ascending
-abbrev pub countUp : ℕ → ℕ → List ℕ
-countUp k zero = []
-countUp k (suc n) = k ∷ countUp (suc k) n
+abbrev pub count_up : ℕ → ℕ → List ℕ
+count_up k zero = []
+count_up k (suc n) = k ∷ count_up (suc k) n
 
 -- the entries that pass a test
 abbrev pub keep : (ℕ → Bool) → List ℕ → List ℕ

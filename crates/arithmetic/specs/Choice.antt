@@ -6,5 +6,5 @@ abbrev pub chosen_of : ℕ → ℕ → ℕ → ℕ
 chosen_of zero x y = x
 chosen_of (suc d) x y = y
 
-unfoldable pub lessDigit : ℕ → ℕ → ℕ
-lessDigit x y = elim (ltb x y) [ true ↦ 1 | false ↦ 0 ]
+unfoldable pub less_digit : ℕ → ℕ → ℕ
+less_digit x y = elim (ltb x y) [ true ↦ 1 | false ↦ 0 ]

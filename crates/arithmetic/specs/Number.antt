@@ -12,6 +12,6 @@ unfoldable pub number_of : ℕ → ℕ → ℕ → ℕ
 number_of m p a = numbered (2 ^ m - 1) (first (λ e. eqb (power p 2 e) a) (2 ^ m - 1))
 
 -- "number 0 gives element 0, N up to 2^m - 1 gives x^(N-1)"
-unfoldable pub elementOf : ℕ → ℕ → ℕ
-elementOf p zero = 0
-elementOf p (suc e) = power p 2 e
+unfoldable pub element_of : ℕ → ℕ → ℕ
+element_of p zero = 0
+element_of p (suc e) = power p 2 e

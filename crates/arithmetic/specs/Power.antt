@@ -3,6 +3,6 @@ use Rattle.std.specs.Prelude.{ℕ, suc, ℤ, pos, negsuc}
 use Rattle.galois.specs.Power.{power}
 use Rattle.arithmetic.specs.Quotient.{quotient_of}
 
-unfoldable pub powerOf : ℕ → ℕ → ℕ → ℤ → ℕ
-powerOf m p a (pos n) = power p a n
-powerOf m p a (negsuc n) = power p (quotient_of m p 1 a) (suc n)
+unfoldable pub power_of : ℕ → ℕ → ℕ → ℤ → ℕ
+power_of m p a (pos n) = power p a n
+power_of m p a (negsuc n) = power p (quotient_of m p 1 a) (suc n)

@@ -5,13 +5,13 @@ use native.Mathlib.Nat.{zero-div}
 use native.Mathlib.Decide.{dec_lt}
 use Rattle.algebra.proofs.Search.{same_test}
 use Rattle.binary.specs.Xor.{◌⊕◌, Degree}
-use Rattle.binary.proofs.Xor.{xor-zero, exp-lt}
+use Rattle.binary.proofs.Xor.{xor-zero, exp_lt}
 use Rattle.binary.proofs.Times.{times-xor}
 use Rattle.binary.specs.Remainder.{remainder, divides}
-use Rattle.binary.proofs.Remainder.{remainder-small}
+use Rattle.binary.proofs.Remainder.{remainder_small}
 use Rattle.binary.specs.Factor.{Division}
 use Rattle.binary.specs.Block.{raise, turn}
-use Rattle.binary.proofs.Shift.{shift_is, shift-exact, lowered-mod, lowered-lt}
+use Rattle.binary.proofs.Shift.{shift_is, shift_exact, lowered_mod, lowered_lt}
 
 -- rest is a value with p's remainder modulo d, s places up
 pub record Aligned (p d rest s : ℕ) : Type 0 where
@@ -21,19 +21,19 @@ pub record Aligned (p d rest s : ℕ) : Type 0 where
   pub same : remainder value d ≡ remainder p d
 
 -- the degree of the divisor
-pub divisor-degree : {m a d k : ℕ} → Division m a d → Degree k d → (1 ≤ k) × (k ≤ m) × (m ≤ 30)
-divisor-degree {m} {a} {d} {k} D h =
-    let w = exp-lt k (suc m) a (omega (arith, D.most, h.0)) D.degree.1 in
-    let v = exp-lt 1 (suc k) d D.two h.1 in
+pub divisor_degree : {m a d k : ℕ} → Division m a d → Degree k d → (1 ≤ k) × (k ≤ m) × (m ≤ 30)
+divisor_degree {m} {a} {d} {k} D h =
+    let w = exp_lt k (suc m) a (omega (arith, D.most, h.0)) D.degree.1 in
+    let v = exp_lt 1 (suc k) d D.two h.1 in
     (omega arith, omega arith, D.fits)
 
-pub aligned-start : (m p d : ℕ) → Degree m p → m ≤ 31 → Aligned p d ((p * 2 ^ (31 - m)) % 2 ^ 32) (31 - m)
-aligned-start m p d dp l =
+pub aligned_start : (m p d : ℕ) → Degree m p → m ≤ 31 → Aligned p d ((p * 2 ^ (31 - m)) % 2 ^ 32) (31 - m)
+aligned_start m p d dp l =
     let e : suc m ≡ 32 - (31 - m) = omega arith in
-    record { value = p; is = shift-exact m 31 p dp l (omega arith); small = rw (← e) dp.1; same = refl }
+    record { value = p; is = shift_exact m 31 p dp l (omega arith); small = rw (← e) dp.1; same = refl }
 
-aligned-lt : (p d rest s : ℕ) → s ≤ 32 → Aligned p d rest s → rest < 2 ^ 32
-aligned-lt p d rest s l A =
+aligned_lt : (p d rest s : ℕ) → s ≤ 32 → Aligned p d rest s → rest < 2 ^ 32
+aligned_lt p d rest s l A =
     let e : (32 - s) + s ≡ 32 = omega arith in
     rw A.is (rw e at (shl_lt {a = A.value} (32 - s) s A.small))
 
@@ -61,9 +61,9 @@ module _ (k p d rest s : ℕ) (dd : Degree k d) (l : s + k ≤ 31) (A : Aligned 
       let f : 31 - s ≡ 32 - (s + 1) = omega arith in
       record { value = v; is = ap (λ (x : ℕ). (x * 2) % 2 ^ 32) e ∙ place v s (omega arith) h; small = rw (← f) h; same = q }
 
-  pub aligned-turn : Aligned p d (turn (raise k d) rest) (s + 1)
+  pub aligned_turn : Aligned p d (turn (raise k d) rest) (s + 1)
   unfolding turn
-  aligned-turn = go (dec_lt rest (2 ^ 31))
+  aligned_turn = go (dec_lt rest (2 ^ 31))
     where
       v : ℕ
       v = A.value
@@ -72,10 +72,10 @@ module _ (k p d rest s : ℕ) (dd : Degree k d) (l : s + k ≤ 31) (A : Aligned 
       D = raise k d
 
       fits : rest < 2 ^ 32
-      fits = aligned-lt p d rest s (omega arith) A
+      fits = aligned_lt p d rest s (omega arith) A
 
       exact : D ≡ (d * 2 ^ ((31 - s) - k)) * 2 ^ s
-      exact = shift-exact k 31 d dd (omega arith) (omega arith) ∙ lower
+      exact = shift_exact k 31 d dd (omega arith) (omega arith) ∙ lower
 
       go : Dec (rest < 2 ^ 31) → Aligned p d (((rest ⊕ rest / 2 ^ 31 * D) * 2) % 2 ^ 32) (s + 1)
       go (yes b) =
@@ -90,23 +90,23 @@ module _ (k p d rest s : ℕ) (dd : Degree k d) (l : s + k ≤ 31) (A : Aligned 
           let y : rest / 2 ^ 31 * D ≡ (d * 2 ^ ((31 - s) - k)) * 2 ^ s = ap (λ (x : ℕ). x * D) z ∙ one-mul D ∙ exact in
           let e : 32 - s ≡ suc (31 - s) = omega arith in
           let dv : Degree (31 - s) v = (le_of_mul-le-mul_right u (pow_pos s), rw e at A.small) in
-          next (v ⊕ d * 2 ^ ((31 - s) - k)) (lowered-lt k (31 - s) v d dd dv (omega arith)) (lowered-mod k (31 - s) v d dd dv (omega arith) ∙ A.same)
+          next (v ⊕ d * 2 ^ ((31 - s) - k)) (lowered_lt k (31 - s) v d dd dv (omega arith)) (lowered_mod k (31 - s) v d dd dv (omega arith) ∙ A.same)
           (rest ⊕ rest / 2 ^ 31 * D)
           (ap₂ ◌⊕◌ A.is y ∙ shift-xor v (d * 2 ^ ((31 - s) - k)) s)
 
 -- at the end the value is the remainder
 module _ (k p d rest s : ℕ) (dd : Degree k d) (l : k ≤ 32) (e : s ≡ 32 - k) (A : Aligned p d rest s) where
-  value-is : A.value ≡ remainder p d
-  value-is = let f : 32 - s ≡ k = omega arith in sym (remainder-small k d dd A.value (rw f at A.small)) ∙ A.same
+  value_is : A.value ≡ remainder p d
+  value_is = let f : 32 - s ≡ k = omega arith in sym (remainder_small k d dd A.value (rw f at A.small)) ∙ A.same
 
-  pub aligned-end : rest / 2 ^ (32 - k) ≡ remainder p d
-  aligned-end =
-      ap (λ (j : ℕ). rest / 2 ^ j) (sym e) ∙ ap (λ (x : ℕ). x / 2 ^ s) A.is ∙ mul-div_cancel A.value (pow_pos s) ∙ value-is
+  pub aligned_end : rest / 2 ^ (32 - k) ≡ remainder p d
+  aligned_end =
+      ap (λ (j : ℕ). rest / 2 ^ j) (sym e) ∙ ap (λ (x : ℕ). x / 2 ^ s) A.is ∙ mul-div_cancel A.value (pow_pos s) ∙ value_is
 
   -- and the rest is 0 where d divides
-  pub aligned-zero : eqb rest 0 ≡ divides d p
-  aligned-zero =
+  pub aligned_zero : eqb rest 0 ≡ divides d p
+  aligned_zero =
       same_test (eqb rest 0) (divides d p) (
-        λ z. eq-eqb (remainder p d) 0 (sym aligned-end ∙ ap (λ (x : ℕ). x / 2 ^ (32 - k)) (eqb-true rest 0 z) ∙ zero-div (2 ^ (32 - k))),
-        λ z. eq-eqb rest 0 (A.is ∙ ap (λ (x : ℕ). x * 2 ^ s) (value-is ∙ eqb-true (remainder p d) 0 z) ∙ zero-mul (2 ^ s)),
+        λ z. eq-eqb (remainder p d) 0 (sym aligned_end ∙ ap (λ (x : ℕ). x / 2 ^ (32 - k)) (eqb-true rest 0 z) ∙ zero-div (2 ^ (32 - k))),
+        λ z. eq-eqb rest 0 (A.is ∙ ap (λ (x : ℕ). x * 2 ^ s) (value_is ∙ eqb-true (remainder p d) 0 z) ∙ zero-mul (2 ^ s)),
       )

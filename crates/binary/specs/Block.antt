@@ -1,9 +1,9 @@
 -- Divisions in words of 32 digits, by a block of divisors at once: one turn (`raise`, `turn`), and the lists that a block goes through (`entries`).
 -- Assumes nothing.
 use Rattle.std.specs.Prelude.{ℕ, ◌+◌, ◌-◌, ◌*◌, ◌/◌, ◌%◌, ◌^◌, ◌<◌, ◌≤◌, List, map, slice_index}
-use Rattle.algebra.specs.Lists.{countUp}
+use Rattle.algebra.specs.Lists.{count_up}
 use Rattle.binary.specs.Xor.{◌⊕◌, Degree}
-use Rattle.binary.specs.Product.{wordDegree}
+use Rattle.binary.specs.Product.{word_degree}
 
 -- how many divisors are tried at once
 abbrev pub block : ℕ
@@ -19,12 +19,12 @@ turn divisor rest = ((rest ⊕ rest / 2 ^ 31 * divisor) * 2) % 2 ^ 32
 
 -- a block's list, with f i at place i
 abbrev pub entries : (ℕ → ℕ) → List ℕ
-entries f = map f (countUp 0 block)
+entries f = map f (count_up 0 block)
 
 -- what the code asks of divisions of a by a block: a of degree m, room in a word, and divisors of one degree k, so that all take as many turns
 pub record Divisions (m k a : ℕ) (divisors : List ℕ) : Type 0 where
   pub degree : Degree m a
-  pub fits : m ≤ wordDegree
+  pub fits : m ≤ word_degree
   pub most : k ≤ m
   pub alike : (i : ℕ) → i < block → Degree k (slice_index divisors i)
 

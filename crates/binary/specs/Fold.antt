@@ -3,11 +3,11 @@
 use Rattle.std.specs.Prelude.{ℕ, zero, suc, ◌/◌}
 
 -- n halvings at most
-unfoldable pub foldF : (ℕ → ℕ → ℕ) → ℕ → ℕ → ℕ
-foldF f zero a = 0
-foldF f (suc n) zero = 0
-foldF f (suc n) (suc a) = f (suc a) (foldF f n (suc a / 2))
+unfoldable pub fold_f : (ℕ → ℕ → ℕ) → ℕ → ℕ → ℕ
+fold_f f zero a = 0
+fold_f f (suc n) zero = 0
+fold_f f (suc n) (suc a) = f (suc a) (fold_f f n (suc a / 2))
 
 -- a halvings are enough for a
 unfoldable pub fold : (ℕ → ℕ → ℕ) → ℕ → ℕ
-fold f a = foldF f a a
+fold f a = fold_f f a a

@@ -9,15 +9,15 @@ unfoldable pub product : ℕ → ℕ → ℕ → ℕ
 product p a b = remainder (times a b) p
 
 -- the product with the polynomial x, which is the number 2
-unfoldable pub timesX : ℕ → ℕ → ℕ
-timesX p a = remainder (a * 2) p
+unfoldable pub times_x : ℕ → ℕ → ℕ
+times_x p a = remainder (a * 2) p
 
 -- the highest degree for which a double still fits the machine's 32 bits
-abbrev pub wordDegree : ℕ
-wordDegree = 30
+abbrev pub word_degree : ℕ
+word_degree = 30
 
 -- what the code asks of a polynomial: its degree m, from 2 on, and room in a word
 pub record Modulus (m p : ℕ) : Type 0 where
   pub degree : Degree m p
   pub two : 2 ≤ m
-  pub fits : m ≤ wordDegree
+  pub fits : m ≤ word_degree

@@ -4,8 +4,8 @@ use Rattle.binary.specs.Xor.{◌⊕◌}
 use Rattle.binary.specs.Fold.{fold}
 
 -- one digit of x more, where r is the product for the digits above
-unfoldable pub timesStep : ℕ → ℕ → ℕ → ℕ
-timesStep b x r = x % 2 * b ⊕ r * 2
+unfoldable pub times_step : ℕ → ℕ → ℕ → ℕ
+times_step b x r = x % 2 * b ⊕ r * 2
 
 unfoldable pub times : ℕ → ℕ → ℕ
-times a b = fold (timesStep b) a
+times a b = fold (times_step b) a

@@ -1,9 +1,9 @@
 -- What acceptance shows of a field polynomial (`accepted` of proofs/Refusal). Assumes nothing.
 use Rattle.std.specs.Prelude.{ℕ, ◌≤◌}
-use Rattle.binary.specs.Factor.{degreeOf}
+use Rattle.binary.specs.Factor.{degree_of}
 use Rattle.arithmetic.specs.Modulus.{FieldModulus}
-use Rattle.field.specs.Limits.{largestDegree}
+use Rattle.field.specs.Limits.{largest_degree}
 
 pub record Accepted (p : ℕ) : Type 0 where
-  pub ready : FieldModulus (degreeOf p) p
-  pub largest : degreeOf p ≤ largestDegree
+  pub ready : FieldModulus (degree_of p) p
+  pub largest : degree_of p ≤ largest_degree

@@ -4,56 +4,56 @@ use Rattle.std.specs.Prelude.{◌&&◌, ◌||◌, [], ◌∷◌, ◌++◌, ℕ, 
 use Rattle.std.specs.Int.Signed.{lt_z}
 use Rattle.binary.specs.Xor.{◌⊕◌}
 use Rattle.binary.specs.Product.{product}
-use Rattle.binary.specs.Factor.{degreeOf}
+use Rattle.binary.specs.Factor.{degree_of}
 use Rattle.galois.specs.Power.{power}
 use Rattle.galois.specs.Trace.{trace}
-use Rattle.field.specs.Limits.{smallestDegree, largestDegree}
-use Rattle.field.specs.Refusal.{◌⇒◌, Outcome, outcome, polynomialTests, elementTests, elementsTests}
+use Rattle.field.specs.Limits.{smallest_degree, largest_degree}
+use Rattle.field.specs.Refusal.{◌⇒◌, Outcome, outcome, polynomial_tests, element_tests, elements_tests}
 use Rattle.arithmetic.specs.Quotient.{quotient_of}
-use Rattle.arithmetic.specs.Power.{powerOf}
-use Rattle.arithmetic.specs.Number.{number_of, elementOf}
-use Rattle.field.specs.House.{houseEntry}
+use Rattle.arithmetic.specs.Power.{power_of}
+use Rattle.arithmetic.specs.Number.{number_of, element_of}
+use Rattle.field.specs.House.{house_entry}
 
 -- "accepted when m is 2 to 16 and no polynomial of degree 1 to m/2 divides it": then its degree
-abbrev pub acceptOutcome : ℕ → Outcome ℕ
-acceptOutcome p = outcome (polynomialTests p) (degreeOf p)
+abbrev pub accept_outcome : ℕ → Outcome ℕ
+accept_outcome p = outcome (polynomial_tests p) (degree_of p)
 
 -- "sum is exclusive or"
-abbrev pub sumOutcome : ℕ → ℕ → ℕ → Outcome ℕ
-sumOutcome p a b = outcome (elementsTests p a b) (a ⊕ b)
+abbrev pub sum_outcome : ℕ → ℕ → ℕ → Outcome ℕ
+sum_outcome p a b = outcome (elements_tests p a b) (a ⊕ b)
 
 -- "product is the product over GF(2), reduced by the field polynomial"
-abbrev pub productOutcome : ℕ → ℕ → ℕ → Outcome ℕ
-productOutcome p a b = outcome (elementsTests p a b) (product p a b)
+abbrev pub product_outcome : ℕ → ℕ → ℕ → Outcome ℕ
+product_outcome p a b = outcome (elements_tests p a b) (product p a b)
 
 -- "the one element q with q·b = a, for b not 0"; 6: "quotient by 0"
-abbrev pub quotientOutcome : ℕ → ℕ → ℕ → Outcome ℕ
-quotientOutcome p a b = outcome (elementsTests p a b ++ eqb b 0 ⇒ 6 ∷ []) (quotient_of (degreeOf p) p a b)
+abbrev pub quotient_outcome : ℕ → ℕ → ℕ → Outcome ℕ
+quotient_outcome p a b = outcome (elements_tests p a b ++ eqb b 0 ⇒ 6 ∷ []) (quotient_of (degree_of p) p a b)
 
 -- "0 to the 0 is 1; 0 to a positive exponent is 0; 0 to a negative one is turned down", by 6
-abbrev pub powerOutcome : ℕ → ℕ → ℤ → Outcome ℕ
-powerOutcome p a e = outcome (elementTests p a ++ (eqb a 0 && lt_z e (pos 0)) ⇒ 6 ∷ []) (powerOf (degreeOf p) p a e)
+abbrev pub power_outcome : ℕ → ℕ → ℤ → Outcome ℕ
+power_outcome p a e = outcome (element_tests p a ++ (eqb a 0 && lt_z e (pos 0)) ⇒ 6 ∷ []) (power_of (degree_of p) p a e)
 
 -- "square root of b is b raised to 2^(m-1)"
-abbrev pub squareRootOutcome : ℕ → ℕ → Outcome ℕ
-squareRootOutcome p b = outcome (elementTests p b) (power p b (2 ^ (degreeOf p - 1)))
+abbrev pub square_root_outcome : ℕ → ℕ → Outcome ℕ
+square_root_outcome p b = outcome (element_tests p b) (power p b (2 ^ (degree_of p - 1)))
 
 -- "c + c^2 + c^4 + ... + c^(2^(m-1))"
-abbrev pub traceOutcome : ℕ → ℕ → Outcome ℕ
-traceOutcome p c = outcome (elementTests p c) (trace (degreeOf p) p c)
+abbrev pub trace_outcome : ℕ → ℕ → Outcome ℕ
+trace_outcome p c = outcome (element_tests p c) (trace (degree_of p) p c)
 
 -- "element to number
-abbrev pub numberOutcome : ℕ → ℕ → Outcome ℕ
-numberOutcome p a = outcome (elementTests p a) (number_of (degreeOf p) p a)
+abbrev pub number_outcome : ℕ → ℕ → Outcome ℕ
+number_outcome p a = outcome (element_tests p a) (number_of (degree_of p) p a)
 
 -- and back": "N up to 2^m - 1 gives x^(N-1), larger is turned down by 4"
-abbrev pub elementOutcome : ℕ → ℕ → Outcome ℕ
-elementOutcome p n = outcome (elementTests p n) (elementOf p n)
+abbrev pub element_outcome : ℕ → ℕ → Outcome ℕ
+element_outcome p n = outcome (element_tests p n) (element_of p n)
 
 -- "exponent to element by the power of x"
-abbrev pub powerOfXOutcome : ℕ → ℤ → Outcome ℕ
-powerOfXOutcome p e = outcome (polynomialTests p) (powerOf (degreeOf p) p 2 e)
+abbrev pub power_of_xOutcome : ℕ → ℤ → Outcome ℕ
+power_of_xOutcome p e = outcome (polynomial_tests p) (power_of (degree_of p) p 2 e)
 
 -- "asked for another degree: number 1"
-abbrev pub houseOutcome : ℕ → Outcome ℕ
-houseOutcome d = outcome ((ltb d smallestDegree || ltb largestDegree d) ⇒ 1 ∷ []) (houseEntry d)
+abbrev pub house_outcome : ℕ → Outcome ℕ
+house_outcome d = outcome ((ltb d smallest_degree || ltb largest_degree d) ⇒ 1 ∷ []) (house_entry d)

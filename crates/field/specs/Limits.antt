@@ -1,16 +1,16 @@
 -- How far the library goes (01, "What the library covers"): the one place that says so. Assumes nothing.
 use Rattle.std.specs.Prelude.{ℕ, suc, ◌^◌}
 
-abbrev pub smallestDegree : ℕ
-smallestDegree = 2
+abbrev pub smallest_degree : ℕ
+smallest_degree = 2
 
-abbrev pub largestDegree : ℕ
-largestDegree = 16
+abbrev pub largest_degree : ℕ
+largest_degree = 16
 
 -- a field polynomial is not below this number,
-abbrev pub polynomialFloor : ℕ
-polynomialFloor = 2 ^ smallestDegree
+abbrev pub polynomial_floor : ℕ
+polynomial_floor = 2 ^ smallest_degree
 
 -- and below this one
-abbrev pub polynomialCeiling : ℕ
-polynomialCeiling = 2 ^ suc largestDegree
+abbrev pub polynomial_ceiling : ℕ
+polynomial_ceiling = 2 ^ suc largest_degree

@@ -1,8 +1,8 @@
 // GF(2^m), m from 2 to 16: the public calls of the arithmetic. Each takes the field polynomial and tests it; none asks anything of its
 // caller, and each answers by its definition in specs/Calls, for every input.
 ghost use Rattle.std.specs.Prelude.{◌≡◌};
-ghost use Rattle.field.specs.Answers.{ofDegree, ofElement, ofTrace, ofNumber, ofPolynomial};
-ghost use Rattle.field.specs.Calls.{acceptOutcome, sumOutcome, productOutcome, quotientOutcome, powerOutcome, squareRootOutcome, traceOutcome, numberOutcome, elementOutcome, powerOfXOutcome, houseOutcome};
+ghost use Rattle.field.specs.Answers.{of_degree, of_element, of_trace, of_number, of_polynomial};
+ghost use Rattle.field.specs.Calls.{accept_outcome, sum_outcome, product_outcome, quotient_outcome, power_outcome, square_root_outcome, trace_outcome, number_outcome, element_outcome, power_of_xOutcome, house_outcome};
 
 pub mod inner;
 pub mod limits;
@@ -56,7 +56,7 @@ pub enum PolynomialAnswer {
 
 // Tests a field polynomial, and gives its degree.
 pub fn accept(p: u32) -> DegreeAnswer
-    ensures { ofDegree result ≡ acceptOutcome p }
+    ensures { of_degree result ≡ accept_outcome p }
 {
     let refused = refusal::of_polynomial(p);
     if refused != 0 {
@@ -67,7 +67,7 @@ pub fn accept(p: u32) -> DegreeAnswer
 
 // The exclusive or of two elements.
 pub fn sum(p: u32, a: Element, b: Element) -> ElementAnswer
-    ensures { ofElement result ≡ sumOutcome p a.0 b.0 }
+    ensures { of_element result ≡ sum_outcome p a.0 b.0 }
 {
     let refused = refusal::of_elements(p, a.0, b.0);
     if refused != 0 {
@@ -78,7 +78,7 @@ pub fn sum(p: u32, a: Element, b: Element) -> ElementAnswer
 
 // The product of two elements, modulo the field polynomial.
 pub fn product(p: u32, a: Element, b: Element) -> ElementAnswer
-    ensures { ofElement result ≡ productOutcome p a.0 b.0 }
+    ensures { of_element result ≡ product_outcome p a.0 b.0 }
 {
     let refused = refusal::of_elements(p, a.0, b.0);
     if refused != 0 {
@@ -90,7 +90,7 @@ pub fn product(p: u32, a: Element, b: Element) -> ElementAnswer
 
 // The one element q with q·b = a.
 pub fn quotient(p: u32, a: Element, b: Element) -> ElementAnswer
-    ensures { ofElement result ≡ quotientOutcome p a.0 b.0 }
+    ensures { of_element result ≡ quotient_outcome p a.0 b.0 }
 {
     let refused = refusal::of_elements(p, a.0, b.0);
     if refused != 0 {
@@ -105,7 +105,7 @@ pub fn quotient(p: u32, a: Element, b: Element) -> ElementAnswer
 
 // a to any exponent; a negative one is the power of the inverse.
 pub fn power(p: u32, a: Element, e: Exponent) -> ElementAnswer
-    ensures { ofElement result ≡ powerOutcome p a.0 e.0 }
+    ensures { of_element result ≡ power_outcome p a.0 e.0 }
 {
     let refused = refusal::of_element(p, a.0);
     if refused != 0 {
@@ -120,7 +120,7 @@ pub fn power(p: u32, a: Element, e: Exponent) -> ElementAnswer
 
 // The one element that squares to b.
 pub fn square_root(p: u32, b: Element) -> ElementAnswer
-    ensures { ofElement result ≡ squareRootOutcome p b.0 }
+    ensures { of_element result ≡ square_root_outcome p b.0 }
 {
     let refused = refusal::of_element(p, b.0);
     if refused != 0 {
@@ -132,7 +132,7 @@ pub fn square_root(p: u32, b: Element) -> ElementAnswer
 
 // 0 or 1.
 pub fn trace(p: u32, c: Element) -> TraceAnswer
-    ensures { ofTrace result ≡ traceOutcome p c.0 }
+    ensures { of_trace result ≡ trace_outcome p c.0 }
 {
     let refused = refusal::of_element(p, c.0);
     if refused != 0 {
@@ -144,7 +144,7 @@ pub fn trace(p: u32, c: Element) -> TraceAnswer
 
 // Element to logarithm number,
 pub fn number_of_element(p: u32, a: Element) -> NumberAnswer
-    ensures { ofNumber result ≡ numberOutcome p a.0 }
+    ensures { of_number result ≡ number_outcome p a.0 }
 {
     let refused = refusal::of_element(p, a.0);
     if refused != 0 {
@@ -156,7 +156,7 @@ pub fn number_of_element(p: u32, a: Element) -> NumberAnswer
 
 // and back.
 pub fn element_of_number(p: u32, n: LogNumber) -> ElementAnswer
-    ensures { ofElement result ≡ elementOutcome p n.0 }
+    ensures { of_element result ≡ element_outcome p n.0 }
 {
     let refused = refusal::of_element(p, n.0);
     if refused != 0 {
@@ -168,7 +168,7 @@ pub fn element_of_number(p: u32, n: LogNumber) -> ElementAnswer
 
 // Exponent to element.
 pub fn power_of_x(p: u32, e: Exponent) -> ElementAnswer
-    ensures { ofElement result ≡ powerOfXOutcome p e.0 }
+    ensures { of_element result ≡ power_of_xOutcome p e.0 }
 {
     let refused = refusal::of_polynomial(p);
     if refused != 0 {
@@ -180,7 +180,7 @@ pub fn power_of_x(p: u32, e: Exponent) -> ElementAnswer
 
 // The house's polynomial of a degree.
 pub fn house_polynomial(degree: u32) -> PolynomialAnswer
-    ensures { ofPolynomial result ≡ houseOutcome degree }
+    ensures { of_polynomial result ≡ house_outcome degree }
 {
     if degree < SMALLEST_DEGREE {
         return PolynomialAnswer::TurnedDown(refused::OUT_OF_RANGE);

@@ -1,4 +1,4 @@
--- Values put into a list one after the other, from its front: `copied-start`, `copied-turn`, `copied-end`. Assumes nothing.
+-- Values put into a list one after the other, from its front: `copied_start`, `copied_turn`, `copied_end`. Assumes nothing.
 use mathlib.Core.Path.{◌≡◌, refl, sym, ap, ◌∙◌}
 use mathlib.Core.List.{List, ◌++◌}
 use Prim.Native.Nat.{ℕ, suc, ◌+◌, ◌≤◌, ◌<◌}
@@ -12,12 +12,12 @@ pub record Copied (values list₀ list : List ℕ) (i : ℕ) : Type 0 where
   pub long : length list ≡ length list₀
   pub are : list ≡ paste list₀ 0 values i
 
-pub copied-start : (values list : List ℕ) → length values ≤ length list → Copied values list list 0
-copied-start values list l = record { within = omega arith; room = l; long = refl; are = paste-zero list 0 values }
+pub copied_start : (values list : List ℕ) → length values ≤ length list → Copied values list list 0
+copied_start values list l = record { within = omega arith; room = l; long = refl; are = paste-zero list 0 values }
 
 module _ (values list₀ list : List ℕ) (i : ℕ) (C : Copied values list₀ list i) where
-  pub copied-turn : i < length values → Copied values list₀ (set list i (get_or values i 0)) (i + 1)
-  copied-turn l =
+  pub copied_turn : i < length values → Copied values list₀ (set list i (get_or values i 0)) (i + 1)
+  copied_turn l =
       let next : suc i ≡ i + 1 = omega arith in
       let place : 0 + i ≡ i = omega arith in
       record {
@@ -31,8 +31,8 @@ module _ (values list₀ list : List ℕ) (i : ℕ) (C : Copied values list₀ l
             ∙ ap (paste list₀ 0 values) next;
       }
 
-  pub copied-end : length values ≤ i → list ≡ values ++ drop (length values) list₀
-  copied-end l =
+  pub copied_end : length values ≤ i → list ≡ values ++ drop (length values) list₀
+  copied_end l =
       let w = C.within in
       let all : i ≡ length values = omega arith in
       let front : 0 + length values ≡ length values = omega arith in

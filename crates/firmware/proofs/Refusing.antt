@@ -7,87 +7,87 @@ use lib.Dec.{eqb, leb, ltb}
 use lib.IntN.{ℤ, pos}
 use lib.Signed.{lt_z}
 use lib.ListN.{length}
-use Rattle.algebra.specs.Search.{someBelow}
+use Rattle.algebra.specs.Search.{some_below}
 use Rattle.binary.specs.Xor.{◌⊕◌}
 use Rattle.binary.specs.Product.{product}
-use Rattle.binary.specs.Factor.{degreeOf}
+use Rattle.binary.specs.Factor.{degree_of}
 use Rattle.galois.specs.Power.{power}
 use Rattle.galois.specs.Trace.{trace}
-use Rattle.galois.specs.Roots.{rootsOf}
+use Rattle.galois.specs.Roots.{roots_of}
 use Rattle.arithmetic.specs.Quotient.{quotient_of}
-use Rattle.arithmetic.specs.Power.{powerOf}
-use Rattle.arithmetic.specs.Number.{number_of, elementOf}
-use Rattle.field.specs.Limits.{smallestDegree, largestDegree}
-use Rattle.field.specs.Refusal.{Test, ◌⇒◌, refusal, Outcome, turnedDown, gives, answerBy, outcome, polynomialTests, elementTests, elementsTests}
-use Rattle.field.specs.House.{houseEntry}
-use Rattle.field.specs.Calls.{acceptOutcome, sumOutcome, productOutcome, quotientOutcome, powerOutcome, squareRootOutcome, traceOutcome, numberOutcome, elementOutcome, powerOfXOutcome, houseOutcome}
-use Rattle.affine.specs.Equation.{isRoot, allRoots, base_of, directionsOf, rootAt}
-use Rattle.affine.specs.Calls.{placeOutcome, listingTests, listingOutcome}
+use Rattle.arithmetic.specs.Power.{power_of}
+use Rattle.arithmetic.specs.Number.{number_of, element_of}
+use Rattle.field.specs.Limits.{smallest_degree, largest_degree}
+use Rattle.field.specs.Refusal.{Test, ◌⇒◌, refusal, Outcome, turned_down, gives, answer_by, outcome, polynomial_tests, element_tests, elements_tests}
+use Rattle.field.specs.House.{house_entry}
+use Rattle.field.specs.Calls.{accept_outcome, sum_outcome, product_outcome, quotient_outcome, power_outcome, square_root_outcome, trace_outcome, number_outcome, element_outcome, power_of_xOutcome, house_outcome}
+use Rattle.affine.specs.Equation.{is_root, all_roots, base_of, directions_of, root_at}
+use Rattle.affine.specs.Calls.{place_outcome, listing_tests, listing_outcome}
 use Rattle.affine.specs.Calls as affine
 use Rattle.roots.specs.Calls as roots
 use Rattle.firmware.specs.Lent.{Refuses}
 
 -- what a call answers by its first number, that of a test or 0
 by : {A B : Type 0} (says : A → Outcome B) (refused : ℕ → A) (v : A) (n : ℕ) → ((k : ℕ) → Refuses (says (refused (suc k)))) → Refuses (says v)
-    → Refuses (says (answerBy n refused v))
+    → Refuses (says (answer_by n refused v))
 by says refused v zero r g = g
 by says refused v (suc k) r g = r k
 
-outcome-refuses : {A : Type 0} (ts : List Test) (v : A) → Refuses (outcome ts v)
-outcome-refuses {A} ts v = by (λ (o : Outcome A). o) turnedDown (gives v) (refusal ts) (λ k e. omega (arith, e)) tt
+outcome_refuses : {A : Type 0} (ts : List Test) (v : A) → Refuses (outcome ts v)
+outcome_refuses {A} ts v = by (λ (o : Outcome A). o) turned_down (gives v) (refusal ts) (λ k e. omega (arith, e)) tt
 
-pub accept-refuses : (p : ℕ) → Refuses (acceptOutcome p)
-accept-refuses p = outcome-refuses (polynomialTests p) (degreeOf p)
+pub accept_refuses : (p : ℕ) → Refuses (accept_outcome p)
+accept_refuses p = outcome_refuses (polynomial_tests p) (degree_of p)
 
-pub house-refuses : (d : ℕ) → Refuses (houseOutcome d)
-house-refuses d = outcome-refuses ((ltb d smallestDegree || ltb largestDegree d) ⇒ 1 ∷ []) (houseEntry d)
+pub house_refuses : (d : ℕ) → Refuses (house_outcome d)
+house_refuses d = outcome_refuses ((ltb d smallest_degree || ltb largest_degree d) ⇒ 1 ∷ []) (house_entry d)
 
-pub sum-refuses : (p a b : ℕ) → Refuses (sumOutcome p a b)
-sum-refuses p a b = outcome-refuses (elementsTests p a b) (a ⊕ b)
+pub sum_refuses : (p a b : ℕ) → Refuses (sum_outcome p a b)
+sum_refuses p a b = outcome_refuses (elements_tests p a b) (a ⊕ b)
 
-pub product-refuses : (p a b : ℕ) → Refuses (productOutcome p a b)
-product-refuses p a b = outcome-refuses (elementsTests p a b) (product p a b)
+pub product_refuses : (p a b : ℕ) → Refuses (product_outcome p a b)
+product_refuses p a b = outcome_refuses (elements_tests p a b) (product p a b)
 
-pub quotient-refuses : (p a b : ℕ) → Refuses (quotientOutcome p a b)
-quotient-refuses p a b = outcome-refuses (elementsTests p a b ++ eqb b 0 ⇒ 6 ∷ []) (quotient_of (degreeOf p) p a b)
+pub quotient_refuses : (p a b : ℕ) → Refuses (quotient_outcome p a b)
+quotient_refuses p a b = outcome_refuses (elements_tests p a b ++ eqb b 0 ⇒ 6 ∷ []) (quotient_of (degree_of p) p a b)
 
-pub power-refuses : (p a : ℕ) (e : ℤ) → Refuses (powerOutcome p a e)
-power-refuses p a e = outcome-refuses (elementTests p a ++ (eqb a 0 && lt_z e (pos 0)) ⇒ 6 ∷ []) (powerOf (degreeOf p) p a e)
+pub power_refuses : (p a : ℕ) (e : ℤ) → Refuses (power_outcome p a e)
+power_refuses p a e = outcome_refuses (element_tests p a ++ (eqb a 0 && lt_z e (pos 0)) ⇒ 6 ∷ []) (power_of (degree_of p) p a e)
 
-pub root-refuses : (p b : ℕ) → Refuses (squareRootOutcome p b)
-root-refuses p b = outcome-refuses (elementTests p b) (power p b (2 ^ (degreeOf p - 1)))
+pub root_refuses : (p b : ℕ) → Refuses (square_root_outcome p b)
+root_refuses p b = outcome_refuses (element_tests p b) (power p b (2 ^ (degree_of p - 1)))
 
-pub trace-refuses : (p c : ℕ) → Refuses (traceOutcome p c)
-trace-refuses p c = outcome-refuses (elementTests p c) (trace (degreeOf p) p c)
+pub trace_refuses : (p c : ℕ) → Refuses (trace_outcome p c)
+trace_refuses p c = outcome_refuses (element_tests p c) (trace (degree_of p) p c)
 
-pub number-refuses : (p a : ℕ) → Refuses (numberOutcome p a)
-number-refuses p a = outcome-refuses (elementTests p a) (number_of (degreeOf p) p a)
+pub number_refuses : (p a : ℕ) → Refuses (number_outcome p a)
+number_refuses p a = outcome_refuses (element_tests p a) (number_of (degree_of p) p a)
 
-pub element-refuses : (p n : ℕ) → Refuses (elementOutcome p n)
-element-refuses p n = outcome-refuses (elementTests p n) (elementOf p n)
+pub element_refuses : (p n : ℕ) → Refuses (element_outcome p n)
+element_refuses p n = outcome_refuses (element_tests p n) (element_of p n)
 
-pub power-of-x-refuses : (p : ℕ) (e : ℤ) → Refuses (powerOfXOutcome p e)
-power-of-x-refuses p e = outcome-refuses (polynomialTests p) (powerOf (degreeOf p) p 2 e)
+pub power_of_x_refuses : (p : ℕ) (e : ℤ) → Refuses (power_of_xOutcome p e)
+power_of_x_refuses p e = outcome_refuses (polynomial_tests p) (power_of (degree_of p) p 2 e)
 
-pub place-refuses : (p : ℕ) (cs : List ℕ) (n : ℕ) → Refuses (placeOutcome p cs n)
-place-refuses p cs n = outcome-refuses (affine.equationTests p cs ++ leb (length (allRoots (degreeOf p) p cs)) n ⇒ 7 ∷ []) (rootAt (degreeOf p) p cs n)
+pub place_refuses : (p : ℕ) (cs : List ℕ) (n : ℕ) → Refuses (place_outcome p cs n)
+place_refuses p cs n = outcome_refuses (affine.equation_tests p cs ++ leb (length (all_roots (degree_of p) p cs)) n ⇒ 7 ∷ []) (root_at (degree_of p) p cs n)
 
-pub listing-refuses : (p : ℕ) (cs : List ℕ) (room : ℕ) → Refuses (listingOutcome p cs room)
-listing-refuses p cs room = outcome-refuses (listingTests p cs room) (length (allRoots (degreeOf p) p cs))
+pub listing_refuses : (p : ℕ) (cs : List ℕ) (room : ℕ) → Refuses (listing_outcome p cs room)
+listing_refuses p cs room = outcome_refuses (listing_tests p cs room) (length (all_roots (degree_of p) p cs))
 
-pub solve-refuses : (p : ℕ) (cs : List ℕ) → Refuses (roots.solveAnswer p cs).says
-solve-refuses p cs = by (λ (a : roots.Answer). a.says) roots.refusedAnswer (roots.solved p cs (rootsOf (degreeOf p) p cs)) (refusal (roots.equationTests p cs)) (λ k e. omega (arith, e)) tt
+pub solve_refuses : (p : ℕ) (cs : List ℕ) → Refuses (roots.solve_answer p cs).says
+solve_refuses p cs = by (λ (a : roots.Answer). a.says) roots.refused_answer (roots.solved p cs (roots_of (degree_of p) p cs)) (refusal (roots.equation_tests p cs)) (λ k e. omega (arith, e)) tt
 
-pub build-refuses : (p : ℕ) (rs : List ℕ) → Refuses (roots.buildAnswer p rs).says
-build-refuses p rs = by (λ (a : roots.Built). a.says) roots.refusedBuilt (roots.built p rs) (refusal (roots.buildTests p rs)) (λ k e. omega (arith, e)) tt
+pub build_refuses : (p : ℕ) (rs : List ℕ) → Refuses (roots.build_answer p rs).says
+build_refuses p rs = by (λ (a : roots.Built). a.says) roots.refused_built (roots.built p rs) (refusal (roots.build_tests p rs)) (λ k e. omega (arith, e)) tt
 
-pub affine-refuses : (p : ℕ) (cs : List ℕ) → Refuses (affine.solveAnswer p cs).says
-affine-refuses p cs =
-    let m = degreeOf p in
-    let found = someBelow (isRoot p cs) (2 ^ m) in
-    by (λ (a : affine.Answer). a.says) affine.refusedAnswer (affine.solution found (base_of m p cs) (directionsOf m p cs)) (refusal (affine.equationTests p cs)) (λ k e. omega (arith, e))
+pub affine_refuses : (p : ℕ) (cs : List ℕ) → Refuses (affine.solve_answer p cs).says
+affine_refuses p cs =
+    let m = degree_of p in
+    let found = some_below (is_root p cs) (2 ^ m) in
+    by (λ (a : affine.Answer). a.says) affine.refused_answer (affine.solution found (base_of m p cs) (directions_of m p cs)) (refusal (affine.equation_tests p cs)) (λ k e. omega (arith, e))
     (solved found)
   where
-    solved : (b : Bool) → Refuses (affine.solution b (base_of (degreeOf p) p cs) (directionsOf (degreeOf p) p cs)).says
+    solved : (b : Bool) → Refuses (affine.solution b (base_of (degree_of p) p cs) (directions_of (degree_of p) p cs)).says
     solved true = tt
     solved false = tt

@@ -1,4 +1,4 @@
--- The answer's text, written into a list of the call's own and copied from there (`text-copied`). Assumes nothing.
+-- The answer's text, written into a list of the call's own and copied from there (`text_copied`). Assumes nothing.
 use mathlib.Core.Path.{◌≡◌, refl, ap, ap₂, ◌∙◌}
 use mathlib.Core.List.{List, ◌++◌}
 use Prim.Native.Nat.{ℕ, ◌+◌, ◌≤◌}
@@ -15,8 +15,8 @@ module _ (n : ℕ) (text out₀ out : List ℕ) (k : n ≡ length text) (e : out
       ap₂ (λ (i : ℕ) (l : List ℕ). take i l) k (e ∙ sets-eq text out₀ 0 room)
       ∙ take_at text (drop (0 + length text) out₀) (length text) refl
 
-  pub text-copied : (list₀ list : List ℕ) → list ≡ take (length (take n out)) (take n out) ++ drop (length (take n out)) list₀
+  pub text_copied : (list₀ list : List ℕ) → list ≡ take (length (take n out)) (take n out) ++ drop (length (take n out)) list₀
       → list ≡ text ++ drop (length text) list₀
-  text-copied list₀ list h =
+  text_copied list₀ list h =
       h ∙ ap (λ (l : List ℕ). take (length l) l ++ drop (length l) list₀) written
       ∙ ap (λ (l : List ℕ). l ++ drop (length text) list₀) (take_all (length text) text (omega arith))

@@ -1,6 +1,6 @@
 // The arithmetic, and the test of a field polynomial: each call has one value, which it puts in the first place of a lent list.
 ghost use Rattle.std.specs.Prelude.{◌≡◌};
-ghost use Rattle.field.specs.Calls.{acceptOutcome, sumOutcome, productOutcome, quotientOutcome, powerOutcome, squareRootOutcome, traceOutcome, numberOutcome, elementOutcome, powerOfXOutcome, houseOutcome};
+ghost use Rattle.field.specs.Calls.{accept_outcome, sum_outcome, product_outcome, quotient_outcome, power_outcome, square_root_outcome, trace_outcome, number_outcome, element_outcome, power_of_xOutcome, house_outcome};
 ghost use Rattle.firmware.specs.Lent.{fits, returned, after, value_of};
 
 use crate::inner::lent::{put, put_element};
@@ -11,8 +11,8 @@ use field::{
 // Tests a field polynomial, and gives its degree.
 #[unsafe(no_mangle)]
 pub extern "C" fn gfroots_accept(p: u32, degree: &mut [u32]) -> u32
-    ensures value { result ≡ returned (acceptOutcome p) (fits 1 degree.old) }
-    ensures degree_after { degree.new ≡ after result (value_of (acceptOutcome p)) degree.old }
+    ensures value { result ≡ returned (accept_outcome p) (fits 1 degree.old) }
+    ensures degree_after { degree.new ≡ after result (value_of (accept_outcome p)) degree.old }
 {
     let answer = field::accept(p);
     match answer {
@@ -24,8 +24,8 @@ pub extern "C" fn gfroots_accept(p: u32, degree: &mut [u32]) -> u32
 // The house's polynomial of a degree.
 #[unsafe(no_mangle)]
 pub extern "C" fn gfroots_house_polynomial(degree: u32, polynomial: &mut [u32]) -> u32
-    ensures value { result ≡ returned (houseOutcome degree) (fits 1 polynomial.old) }
-    ensures polynomial_after { polynomial.new ≡ after result (value_of (houseOutcome degree)) polynomial.old }
+    ensures value { result ≡ returned (house_outcome degree) (fits 1 polynomial.old) }
+    ensures polynomial_after { polynomial.new ≡ after result (value_of (house_outcome degree)) polynomial.old }
 {
     let answer = field::house_polynomial(degree);
     match answer {
@@ -37,8 +37,8 @@ pub extern "C" fn gfroots_house_polynomial(degree: u32, polynomial: &mut [u32]) 
 // The exclusive or of two elements.
 #[unsafe(no_mangle)]
 pub extern "C" fn gfroots_sum(p: u32, a: u32, b: u32, element: &mut [u32]) -> u32
-    ensures value { result ≡ returned (sumOutcome p a b) (fits 1 element.old) }
-    ensures element_after { element.new ≡ after result (value_of (sumOutcome p a b)) element.old }
+    ensures value { result ≡ returned (sum_outcome p a b) (fits 1 element.old) }
+    ensures element_after { element.new ≡ after result (value_of (sum_outcome p a b)) element.old }
 {
     put_element(field::sum(p, Element(a), Element(b)), element)
 }
@@ -46,8 +46,8 @@ pub extern "C" fn gfroots_sum(p: u32, a: u32, b: u32, element: &mut [u32]) -> u3
 // The product of two elements, modulo the field polynomial.
 #[unsafe(no_mangle)]
 pub extern "C" fn gfroots_product(p: u32, a: u32, b: u32, element: &mut [u32]) -> u32
-    ensures value { result ≡ returned (productOutcome p a b) (fits 1 element.old) }
-    ensures element_after { element.new ≡ after result (value_of (productOutcome p a b)) element.old }
+    ensures value { result ≡ returned (product_outcome p a b) (fits 1 element.old) }
+    ensures element_after { element.new ≡ after result (value_of (product_outcome p a b)) element.old }
 {
     put_element(field::product(p, Element(a), Element(b)), element)
 }
@@ -55,8 +55,8 @@ pub extern "C" fn gfroots_product(p: u32, a: u32, b: u32, element: &mut [u32]) -
 // The one element q with q·b = a.
 #[unsafe(no_mangle)]
 pub extern "C" fn gfroots_quotient(p: u32, a: u32, b: u32, element: &mut [u32]) -> u32
-    ensures value { result ≡ returned (quotientOutcome p a b) (fits 1 element.old) }
-    ensures element_after { element.new ≡ after result (value_of (quotientOutcome p a b)) element.old }
+    ensures value { result ≡ returned (quotient_outcome p a b) (fits 1 element.old) }
+    ensures element_after { element.new ≡ after result (value_of (quotient_outcome p a b)) element.old }
 {
     put_element(field::quotient(p, Element(a), Element(b)), element)
 }
@@ -64,8 +64,8 @@ pub extern "C" fn gfroots_quotient(p: u32, a: u32, b: u32, element: &mut [u32]) 
 // a to any exponent; a negative one is the power of the inverse.
 #[unsafe(no_mangle)]
 pub extern "C" fn gfroots_power(p: u32, a: u32, exponent: i32, element: &mut [u32]) -> u32
-    ensures value { result ≡ returned (powerOutcome p a exponent) (fits 1 element.old) }
-    ensures element_after { element.new ≡ after result (value_of (powerOutcome p a exponent)) element.old }
+    ensures value { result ≡ returned (power_outcome p a exponent) (fits 1 element.old) }
+    ensures element_after { element.new ≡ after result (value_of (power_outcome p a exponent)) element.old }
 {
     put_element(field::power(p, Element(a), Exponent(exponent)), element)
 }
@@ -73,8 +73,8 @@ pub extern "C" fn gfroots_power(p: u32, a: u32, exponent: i32, element: &mut [u3
 // The one element that squares to b.
 #[unsafe(no_mangle)]
 pub extern "C" fn gfroots_square_root(p: u32, b: u32, element: &mut [u32]) -> u32
-    ensures value { result ≡ returned (squareRootOutcome p b) (fits 1 element.old) }
-    ensures element_after { element.new ≡ after result (value_of (squareRootOutcome p b)) element.old }
+    ensures value { result ≡ returned (square_root_outcome p b) (fits 1 element.old) }
+    ensures element_after { element.new ≡ after result (value_of (square_root_outcome p b)) element.old }
 {
     put_element(field::square_root(p, Element(b)), element)
 }
@@ -82,8 +82,8 @@ pub extern "C" fn gfroots_square_root(p: u32, b: u32, element: &mut [u32]) -> u3
 // 0 or 1.
 #[unsafe(no_mangle)]
 pub extern "C" fn gfroots_trace(p: u32, c: u32, trace: &mut [u32]) -> u32
-    ensures value { result ≡ returned (traceOutcome p c) (fits 1 trace.old) }
-    ensures trace_after { trace.new ≡ after result (value_of (traceOutcome p c)) trace.old }
+    ensures value { result ≡ returned (trace_outcome p c) (fits 1 trace.old) }
+    ensures trace_after { trace.new ≡ after result (value_of (trace_outcome p c)) trace.old }
 {
     let answer = field::trace(p, Element(c));
     match answer {
@@ -95,8 +95,8 @@ pub extern "C" fn gfroots_trace(p: u32, c: u32, trace: &mut [u32]) -> u32
 // Element to logarithm number,
 #[unsafe(no_mangle)]
 pub extern "C" fn gfroots_number_of_element(p: u32, a: u32, number: &mut [u32]) -> u32
-    ensures value { result ≡ returned (numberOutcome p a) (fits 1 number.old) }
-    ensures number_after { number.new ≡ after result (value_of (numberOutcome p a)) number.old }
+    ensures value { result ≡ returned (number_outcome p a) (fits 1 number.old) }
+    ensures number_after { number.new ≡ after result (value_of (number_outcome p a)) number.old }
 {
     let answer = field::number_of_element(p, Element(a));
     match answer {
@@ -108,8 +108,8 @@ pub extern "C" fn gfroots_number_of_element(p: u32, a: u32, number: &mut [u32]) 
 // and back.
 #[unsafe(no_mangle)]
 pub extern "C" fn gfroots_element_of_number(p: u32, number: u32, element: &mut [u32]) -> u32
-    ensures value { result ≡ returned (elementOutcome p number) (fits 1 element.old) }
-    ensures element_after { element.new ≡ after result (value_of (elementOutcome p number)) element.old }
+    ensures value { result ≡ returned (element_outcome p number) (fits 1 element.old) }
+    ensures element_after { element.new ≡ after result (value_of (element_outcome p number)) element.old }
 {
     put_element(field::element_of_number(p, LogNumber(number)), element)
 }
@@ -117,8 +117,8 @@ pub extern "C" fn gfroots_element_of_number(p: u32, number: u32, element: &mut [
 // Exponent to element.
 #[unsafe(no_mangle)]
 pub extern "C" fn gfroots_power_of_x(p: u32, exponent: i32, element: &mut [u32]) -> u32
-    ensures value { result ≡ returned (powerOfXOutcome p exponent) (fits 1 element.old) }
-    ensures element_after { element.new ≡ after result (value_of (powerOfXOutcome p exponent)) element.old }
+    ensures value { result ≡ returned (power_of_xOutcome p exponent) (fits 1 element.old) }
+    ensures element_after { element.new ≡ after result (value_of (power_of_xOutcome p exponent)) element.old }
 {
     put_element(field::power_of_x(p, Exponent(exponent)), element)
 }

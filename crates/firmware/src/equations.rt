@@ -1,8 +1,8 @@
 // Equations of degree up to 4.
 ghost use Rattle.std.specs.Prelude.{◌≡◌, [], ◌∷◌};
-ghost use Rattle.roots.specs.Limits.{mostCoefficients};
-ghost use Rattle.roots.specs.Calls.{solveAnswer, buildAnswer};
-ghost use Rattle.firmware.specs.Lent.{fits, returned, after, value_of, rootsFit, roomNumber};
+ghost use Rattle.roots.specs.Limits.{most_coefficients};
+ghost use Rattle.roots.specs.Calls.{solve_answer, build_answer};
+ghost use Rattle.firmware.specs.Lent.{fits, returned, after, value_of, roots_fit, room_number};
 
 use crate::inner::lent::{put, put_all};
 use field::refused;
@@ -18,7 +18,7 @@ fn put_roots(
     roots: &mut [u32],
     multiplicities: &mut [u32],
 ) -> u32
-    ensures value { result ≡ roomNumber (rootsFit count.old roots.old multiplicities.old) }
+    ensures value { result ≡ room_number (roots_fit count.old roots.old multiplicities.old) }
     ensures count_after { count.new ≡ after result (n ∷ []) count.old }
     ensures roots_after { roots.new ≡ after result found roots.old }
     ensures multiplicities_after { multiplicities.new ≡ after result often multiplicities.old }
@@ -47,10 +47,10 @@ pub extern "C" fn gfroots_solve(
     roots: &mut [u32],
     multiplicities: &mut [u32],
 ) -> u32
-    ensures value { result ≡ returned (solveAnswer p coefficients.now).says (rootsFit count.old roots.old multiplicities.old) }
-    ensures count_after { count.new ≡ after result (value_of (solveAnswer p coefficients.now).says) count.old }
-    ensures roots_after { roots.new ≡ after result (solveAnswer p coefficients.now).roots roots.old }
-    ensures multiplicities_after { multiplicities.new ≡ after result (solveAnswer p coefficients.now).multiplicities multiplicities.old }
+    ensures value { result ≡ returned (solve_answer p coefficients.now).says (roots_fit count.old roots.old multiplicities.old) }
+    ensures count_after { count.new ≡ after result (value_of (solve_answer p coefficients.now).says) count.old }
+    ensures roots_after { roots.new ≡ after result (solve_answer p coefficients.now).roots roots.old }
+    ensures multiplicities_after { multiplicities.new ≡ after result (solve_answer p coefficients.now).multiplicities multiplicities.old }
 {
     let answer = roots::solve(p, coefficients);
     let said = answer.count;
@@ -63,7 +63,7 @@ pub extern "C" fn gfroots_solve(
 }
 
 fn put_coefficients(built: [u32; MOST_COEFFICIENTS], coefficients: &mut [u32]) -> u32
-    ensures value { result ≡ roomNumber (fits mostCoefficients coefficients.old) }
+    ensures value { result ≡ room_number (fits most_coefficients coefficients.old) }
     ensures coefficients_after { coefficients.new ≡ after result built coefficients.old }
 {
     if coefficients.len() < MOST_COEFFICIENTS {
@@ -76,8 +76,8 @@ fn put_coefficients(built: [u32; MOST_COEFFICIENTS], coefficients: &mut [u32]) -
 // The coefficients of the product of all (x + r), constant first, in five places.
 #[unsafe(no_mangle)]
 pub extern "C" fn gfroots_build(p: u32, roots: &[u32], coefficients: &mut [u32]) -> u32
-    ensures value { result ≡ returned (buildAnswer p roots.now).says (fits mostCoefficients coefficients.old) }
-    ensures coefficients_after { coefficients.new ≡ after result (buildAnswer p roots.now).coefficients coefficients.old }
+    ensures value { result ≡ returned (build_answer p roots.now).says (fits most_coefficients coefficients.old) }
+    ensures coefficients_after { coefficients.new ≡ after result (build_answer p roots.now).coefficients coefficients.old }
 {
     let answer = roots::build(p, roots);
     let said = answer.building;

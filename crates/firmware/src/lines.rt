@@ -1,7 +1,7 @@
 // Frame lines.
 ghost use Rattle.std.specs.Prelude.{◌≡◌, [], ◌∷◌, length};
-ghost use Rattle.frames.specs.Answer.{answerText};
-ghost use Rattle.firmware.specs.Lent.{after, lineFits, roomNumber};
+ghost use Rattle.frames.specs.Answer.{answer_text};
+ghost use Rattle.firmware.specs.Lent.{after, line_fits, room_number};
 
 use crate::inner::lent::put;
 use field::refused;
@@ -10,9 +10,9 @@ use frames::limits::ANSWER_ROOM;
 // The answer to one line, without line feeds, and how many characters it has.
 #[unsafe(no_mangle)]
 pub extern "C" fn gfroots_answer_line(line: &[u8], count: &mut [u32], answer: &mut [u8]) -> u32
-    ensures value { result ≡ roomNumber (lineFits answer.old count.old) }
-    ensures count_after { count.new ≡ after result (length (answerText line.now) ∷ []) count.old }
-    ensures answer_after { answer.new ≡ after result (answerText line.now) answer.old }
+    ensures value { result ≡ room_number (line_fits answer.old count.old) }
+    ensures count_after { count.new ≡ after result (length (answer_text line.now) ∷ []) count.old }
+    ensures answer_after { answer.new ≡ after result (answer_text line.now) answer.old }
 {
     if answer.len() < ANSWER_ROOM {
         return refused::NO_PLACE;

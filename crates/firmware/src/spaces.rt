@@ -1,9 +1,9 @@
 // Affine equations.
 ghost use Rattle.std.specs.Prelude.{◌≡◌, false, [], ◌∷◌, length};
-ghost use Rattle.binary.specs.Factor.{degreeOf};
-ghost use Rattle.affine.specs.Equation.{allRoots};
-ghost use Rattle.affine.specs.Calls.{solveAnswer, placeOutcome, listingOutcome};
-ghost use Rattle.firmware.specs.Lent.{fits, returned, after, value_of, spaceValues, spaceFits, roomNumber};
+ghost use Rattle.binary.specs.Factor.{degree_of};
+ghost use Rattle.affine.specs.Equation.{all_roots};
+ghost use Rattle.affine.specs.Calls.{solve_answer, place_outcome, listing_outcome};
+ghost use Rattle.firmware.specs.Lent.{fits, returned, after, value_of, space_values, space_fits, room_number};
 
 use crate::inner::lent::{put, put_all, put_element};
 use affine::{CountAnswer, RootSpace};
@@ -22,7 +22,7 @@ fn put_space(
     space: &mut [u32],
     directions: &mut [u32],
 ) -> u32
-    ensures value { result ≡ roomNumber (spaceFits space.old directions.old) }
+    ensures value { result ≡ room_number (space_fits space.old directions.old) }
     ensures space_after { space.new ≡ after result (found ∷ k ∷ base ∷ []) space.old }
     ensures directions_after { directions.new ≡ after result steps directions.old }
 {
@@ -46,9 +46,9 @@ pub extern "C" fn gfroots_affine_solve(
     space: &mut [u32],
     directions: &mut [u32],
 ) -> u32
-    ensures value { result ≡ returned (solveAnswer p coefficients.now).says (spaceFits space.old directions.old) }
-    ensures space_after { space.new ≡ after result (spaceValues (solveAnswer p coefficients.now).says (solveAnswer p coefficients.now).base) space.old }
-    ensures directions_after { directions.new ≡ after result (solveAnswer p coefficients.now).directions directions.old }
+    ensures value { result ≡ returned (solve_answer p coefficients.now).says (space_fits space.old directions.old) }
+    ensures space_after { space.new ≡ after result (space_values (solve_answer p coefficients.now).says (solve_answer p coefficients.now).base) space.old }
+    ensures directions_after { directions.new ≡ after result (solve_answer p coefficients.now).directions directions.old }
 {
     let answer = affine::solve(p, coefficients);
     let said = answer.space;
@@ -69,15 +69,15 @@ pub extern "C" fn gfroots_root_at_place(
     n: u32,
     root: &mut [u32],
 ) -> u32
-    ensures value { result ≡ returned (placeOutcome p coefficients.now n) (fits 1 root.old) }
-    ensures root_after { root.new ≡ after result (value_of (placeOutcome p coefficients.now n)) root.old }
+    ensures value { result ≡ returned (place_outcome p coefficients.now n) (fits 1 root.old) }
+    ensures root_after { root.new ≡ after result (value_of (place_outcome p coefficients.now n)) root.old }
 {
     put_element(affine::root_at_place(p, coefficients, n), root)
 }
 
 // With no place for the count nothing may be listed: turned down as the solver turns it down, else by 7.
 fn without_count(p: u32, coefficients: &[u32]) -> u32
-    ensures { result ≡ returned (solveAnswer p coefficients.now).says false }
+    ensures { result ≡ returned (solve_answer p coefficients.now).says false }
 {
     let answer = affine::solve(p, coefficients);
     let said = answer.space;
@@ -96,9 +96,9 @@ pub extern "C" fn gfroots_list_roots(
     count: &mut [u32],
     list: &mut [Entry],
 ) -> u32
-    ensures value { result ≡ returned (listingOutcome p coefficients.now (length list.old)) (fits 1 count.old) }
-    ensures count_after { count.new ≡ after result (value_of (listingOutcome p coefficients.now (length list.old))) count.old }
-    ensures list_after { list.new ≡ after result (allRoots (degreeOf p) p coefficients.now) list.old }
+    ensures value { result ≡ returned (listing_outcome p coefficients.now (length list.old)) (fits 1 count.old) }
+    ensures count_after { count.new ≡ after result (value_of (listing_outcome p coefficients.now (length list.old))) count.old }
+    ensures list_after { list.new ≡ after result (all_roots (degree_of p) p coefficients.now) list.old }
 {
     if count.len() == 0 {
         return without_count(p, coefficients);

@@ -1,5 +1,5 @@
--- No value of an answer is cut to its byte: all bytes of an answer are below 256 (`answer-all`, and `bytes_fit` for each of them). On the
--- way the answers of each kind (`roots-bytes`, `affine-bytes`). Assumes nothing.
+-- No value of an answer is cut to its byte: all bytes of an answer are below 256 (`answer_all`, and `bytes_fit` for each of them). On the
+-- way the answers of each kind (`roots_bytes_lem`, `affine_bytes_lem`). Assumes nothing.
 use mathlib.Core.Path.{◌≡◌, refl}
 use mathlib.Core.Bool.{Bool, true, false}
 use mathlib.Core.List.{List, [], ◌∷◌, map}
@@ -8,120 +8,120 @@ use native.Mathlib.Omega.{arith}
 use lib.Dec.{eqb}
 use lib.ListN.{length, get_or}
 use Rattle.algebra.specs.Lists.{Member, padded}
-use Rattle.algebra.specs.Search.{someBelow}
-use Rattle.algebra.proofs.Places.{padded-at}
-use Rattle.binary.specs.Factor.{degreeOf}
+use Rattle.algebra.specs.Search.{some_below}
+use Rattle.algebra.proofs.Places.{padded_at}
+use Rattle.binary.specs.Factor.{degree_of}
 use Rattle.linear.specs.Limits.{places}
 use Rattle.linear.specs.Solution.{placed}
-use Rattle.galois.specs.Roots.{rootsOf}
+use Rattle.galois.specs.Roots.{roots_of}
 use Rattle.galois.specs.Multiplicity.{multiplicity}
 use Rattle.field.specs.Accepted.{Accepted}
-use Rattle.field.specs.Refusal.{refusal, answerBy}
+use Rattle.field.specs.Refusal.{refusal, answer_by}
 use Rattle.field.proofs.Refusal.{refusal-below}
-use Rattle.affine.specs.Equation.{isRoot, base_of, directionsOf}
+use Rattle.affine.specs.Equation.{is_root, base_of, directions_of}
 use Rattle.affine.specs.Calls as affine
-use Rattle.affine.proofs.Tests.{equation-ready, ready-accepted}
-use Rattle.affine.proofs.Theorems.{base-element, direction-element}
-use Rattle.roots.specs.Limits.{mostRoots}
+use Rattle.affine.proofs.Tests.{equation_ready, ready_accepted}
+use Rattle.affine.proofs.Theorems.{base_element, direction_element}
+use Rattle.roots.specs.Limits.{most_roots}
 use Rattle.roots.specs.Calls as roots
-use Rattle.roots.proofs.Tests.{equation-passed}
-use Rattle.roots.proofs.Theorems.{count_fits, root-element, multiplicity-fits}
-use Rattle.frames.specs.Frame.{kind_of, polynomialOf, coefficientsOf, lineTests}
-use Rattle.frames.specs.Text.{elementBytes, up_to}
-use Rattle.frames.specs.Answer.{rootBytes, directionBytes, rootsBytes, affineBytes, calledBytes, answerBytes}
-use Rattle.frames.proofs.Fitting.{directions-few}
-use Rattle.frames.proofs.Bytes.{AllBytes, all_append, all-up-to, all-member, element-small, field-small}
+use Rattle.roots.proofs.Tests.{equation_passed}
+use Rattle.roots.proofs.Theorems.{count_fits, root_element, multiplicity-fits}
+use Rattle.frames.specs.Frame.{kind_of, polynomial_of, coefficients_of, line_tests}
+use Rattle.frames.specs.Text.{element_bytes, up_to}
+use Rattle.frames.specs.Answer.{root_bytes, direction_bytes, roots_bytes, affine_bytes, called_bytes, answer_bytes}
+use Rattle.frames.proofs.Fitting.{directions_few}
+use Rattle.frames.proofs.Bytes.{AllBytes, all_append, all_up_to, all_member, element_small, field_small}
 
 -- ---- roots
 
-module _ (p : ℕ) (cs : List ℕ) (z : refusal (roots.equationTests p cs) ≡ 0) where
+module _ (p : ℕ) (cs : List ℕ) (z : refusal (roots.equation_tests p cs) ≡ 0) where
   abbrev rs : List ℕ
-  rs = rootsOf (degreeOf p) p cs
+  rs = roots_of (degree_of p) p cs
 
   abbrev ks : List ℕ
   ks = map (λ r. multiplicity p r cs) rs
 
-  pub root-bytes : (i : ℕ) → i < length rs → AllBytes (rootBytes (padded mostRoots rs) (padded mostRoots ks) i)
-  root-bytes i l =
-      let r = get_or (padded mostRoots rs) i 0 in
-      let k = get_or (padded mostRoots ks) i 0 in
-      all_append (elementBytes r) (k ∷ [])
-      (element-small r (omega (arith, padded-at mostRoots rs i, field-small (degreeOf p) (get_or rs i 0) (equation-passed p cs z).accepted.largest (root-element p cs z i l))))
-      (omega (arith, padded-at mostRoots ks i, multiplicity-fits p cs z i), tt)
+  pub root_bytes_lem : (i : ℕ) → i < length rs → AllBytes (root_bytes (padded most_roots rs) (padded most_roots ks) i)
+  root_bytes_lem i l =
+      let r = get_or (padded most_roots rs) i 0 in
+      let k = get_or (padded most_roots ks) i 0 in
+      all_append (element_bytes r) (k ∷ [])
+      (element_small r (omega (arith, padded_at most_roots rs i, field_small (degree_of p) (get_or rs i 0) (equation_passed p cs z).accepted.largest (root_element p cs z i l))))
+      (omega (arith, padded_at most_roots ks i, multiplicity-fits p cs z i), tt)
 
-  pub solved-bytes : AllBytes (rootsBytes (roots.solved p cs rs))
-  solved-bytes =
-      let each = all-up-to (rootBytes (padded mostRoots rs) (padded mostRoots ks)) (length rs) root-bytes in
+  pub solved_bytes : AllBytes (roots_bytes (roots.solved p cs rs))
+  solved_bytes =
+      let each = all_up_to (root_bytes (padded most_roots rs) (padded most_roots ks)) (length rs) root_bytes_lem in
       (omega arith, (omega arith, (omega (arith, count_fits p cs z), each)))
 
-pub roots-bytes : (p : ℕ) (cs : List ℕ) → AllBytes (rootsBytes (roots.solveAnswer p cs))
-roots-bytes p cs = go (refusal (roots.equationTests p cs)) refl
+pub roots_bytes_lem : (p : ℕ) (cs : List ℕ) → AllBytes (roots_bytes (roots.solve_answer p cs))
+roots_bytes_lem p cs = go (refusal (roots.equation_tests p cs)) refl
   where
     v : roots.Answer
-    v = roots.solved p cs (rootsOf (degreeOf p) p cs)
+    v = roots.solved p cs (roots_of (degree_of p) p cs)
 
-    go : (n : ℕ) → refusal (roots.equationTests p cs) ≡ n → AllBytes (rootsBytes (answerBy n roots.refusedAnswer v))
-    go zero e = solved-bytes p cs e
-    go (suc n) e = (omega arith, (omega (arith, e, refusal-below 256 (roots.equationTests p cs) tt), tt))
+    go : (n : ℕ) → refusal (roots.equation_tests p cs) ≡ n → AllBytes (roots_bytes (answer_by n roots.refused_answer v))
+    go zero e = solved_bytes p cs e
+    go (suc n) e = (omega arith, (omega (arith, e, refusal-below 256 (roots.equation_tests p cs) tt), tt))
 
 -- ---- base and directions
 
 placed_at : (ds : List ℕ) (i : ℕ) → get_or (placed ds) i 0 ≡ get_or ds i 0
 unfolding placed
-placed_at ds i = padded-at places ds i
+placed_at ds i = padded_at places ds i
 
-module _ (p : ℕ) (cs : List ℕ) (z : refusal (affine.equationTests p cs) ≡ 0) where
+module _ (p : ℕ) (cs : List ℕ) (z : refusal (affine.equation_tests p cs) ≡ 0) where
   abbrev m : ℕ
-  m = degreeOf p
+  m = degree_of p
 
   abbrev ds : List ℕ
-  ds = directionsOf m p cs
+  ds = directions_of m p cs
 
   abbrev base : ℕ
   base = base_of m p cs
 
   A : Accepted p
-  A = ready-accepted p cs (equation-ready p cs z)
+  A = ready_accepted p cs (equation_ready p cs z)
 
-  pub direction-bytes : (i : ℕ) → i < length ds → AllBytes (directionBytes (placed ds) i)
-  direction-bytes i l = element-small (get_or (placed ds) i 0) (omega (arith, placed_at ds i, field-small m (get_or ds i 0) A.largest (direction-element p A cs i l)))
+  pub direction_bytes_lem : (i : ℕ) → i < length ds → AllBytes (direction_bytes (placed ds) i)
+  direction_bytes_lem i l = element_small (get_or (placed ds) i 0) (omega (arith, placed_at ds i, field_small m (get_or ds i 0) A.largest (direction_element p A cs i l)))
 
-  pub solution-bytes : (b : Bool) → someBelow (isRoot p cs) (2 ^ m) ≡ b → AllBytes (affineBytes (affine.solution b base ds))
-  solution-bytes true e =
-      let each = all-up-to (directionBytes (placed ds)) (length ds) direction-bytes in
-      let rest = all_append (elementBytes base) (up_to (directionBytes (placed ds)) (length ds)) (element-small base (field-small m base A.largest (base-element p A cs e))) each in
-      (omega arith, (omega arith, (omega arith, (omega (arith, directions-few p cs z), rest))))
-  solution-bytes false e = (omega arith, (omega arith, (omega arith, (omega arith, element-small 0 (omega arith)))))
+  pub solution_bytes : (b : Bool) → some_below (is_root p cs) (2 ^ m) ≡ b → AllBytes (affine_bytes (affine.solution b base ds))
+  solution_bytes true e =
+      let each = all_up_to (direction_bytes (placed ds)) (length ds) direction_bytes_lem in
+      let rest = all_append (element_bytes base) (up_to (direction_bytes (placed ds)) (length ds)) (element_small base (field_small m base A.largest (base_element p A cs e))) each in
+      (omega arith, (omega arith, (omega arith, (omega (arith, directions_few p cs z), rest))))
+  solution_bytes false e = (omega arith, (omega arith, (omega arith, (omega arith, element_small 0 (omega arith)))))
 
-pub affine-bytes : (p : ℕ) (cs : List ℕ) → AllBytes (affineBytes (affine.solveAnswer p cs))
-affine-bytes p cs = go (refusal (affine.equationTests p cs)) refl
+pub affine_bytes_lem : (p : ℕ) (cs : List ℕ) → AllBytes (affine_bytes (affine.solve_answer p cs))
+affine_bytes_lem p cs = go (refusal (affine.equation_tests p cs)) refl
   where
     found : Bool
-    found = someBelow (isRoot p cs) (2 ^ degreeOf p)
+    found = some_below (is_root p cs) (2 ^ degree_of p)
 
     v : affine.Answer
-    v = affine.solution found (base_of (degreeOf p) p cs) (directionsOf (degreeOf p) p cs)
+    v = affine.solution found (base_of (degree_of p) p cs) (directions_of (degree_of p) p cs)
 
-    go : (n : ℕ) → refusal (affine.equationTests p cs) ≡ n → AllBytes (affineBytes (answerBy n affine.refusedAnswer v))
-    go zero e = solution-bytes p cs e found refl
-    go (suc n) e = (omega arith, (omega (arith, e, refusal-below 256 (affine.equationTests p cs) tt), tt))
+    go : (n : ℕ) → refusal (affine.equation_tests p cs) ≡ n → AllBytes (affine_bytes (answer_by n affine.refused_answer v))
+    go zero e = solution_bytes p cs e found refl
+    go (suc n) e = (omega arith, (omega (arith, e, refusal-below 256 (affine.equation_tests p cs) tt), tt))
 
 -- ---- the whole answer
 
-called-all : (b : Bool) (p : ℕ) (cs : List ℕ) → AllBytes (calledBytes b p cs)
-called-all true p cs = roots-bytes p cs
-called-all false p cs = affine-bytes p cs
+called_all : (b : Bool) (p : ℕ) (cs : List ℕ) → AllBytes (called_bytes b p cs)
+called_all true p cs = roots_bytes_lem p cs
+called_all false p cs = affine_bytes_lem p cs
 
-pub answer-all : (l : List ℕ) → AllBytes (answerBytes l)
-unfolding answerBytes
-answer-all l = go (refusal (lineTests l)) refl
+pub answer_all : (l : List ℕ) → AllBytes (answer_bytes l)
+unfolding answer_bytes
+answer_all l = go (refusal (line_tests l)) refl
   where
     said : List ℕ
-    said = calledBytes (eqb (kind_of l) 1) (polynomialOf l) (coefficientsOf l)
+    said = called_bytes (eqb (kind_of l) 1) (polynomial_of l) (coefficients_of l)
 
-    go : (n : ℕ) → refusal (lineTests l) ≡ n → AllBytes (answerBy n (λ n. 255 ∷ n ∷ []) said)
-    go zero e = called-all (eqb (kind_of l) 1) (polynomialOf l) (coefficientsOf l)
-    go (suc n) e = (omega arith, (omega (arith, e, refusal-below 256 (lineTests l) tt), tt))
+    go : (n : ℕ) → refusal (line_tests l) ≡ n → AllBytes (answer_by n (λ n. 255 ∷ n ∷ []) said)
+    go zero e = called_all (eqb (kind_of l) 1) (polynomial_of l) (coefficients_of l)
+    go (suc n) e = (omega arith, (omega (arith, e, refusal-below 256 (line_tests l) tt), tt))
 
-pub bytes_fit : (l : List ℕ) (v : ℕ) → Member v (answerBytes l) → v < 256
-bytes_fit l v h = all-member (answerBytes l) v (answer-all l) h
+pub bytes_fit : (l : List ℕ) (v : ℕ) → Member v (answer_bytes l) → v < 256
+bytes_fit l v h = all_member (answer_bytes l) v (answer_all l) h

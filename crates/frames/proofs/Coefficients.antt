@@ -1,5 +1,5 @@
--- The coefficients of a line: how many (`coefficient-count`), and each (`coefficient-is`); a line that no test turns down is well formed
--- (`is-well-formed`). Assumes nothing.
+-- The coefficients of a line: how many (`coefficient_count`), and each (`coefficient_is`); a line that no test turns down is well formed
+-- (`is_well_formed`). Assumes nothing.
 use mathlib.Core.Path.{◌≡◌, sym, ap, ◌∙◌}
 use mathlib.Core.Logic.{◌≢◌}
 use mathlib.Core.Bool.{not}
@@ -9,36 +9,36 @@ use native.Mathlib.Nat.{zero-add}
 use native.Mathlib.Omega.{arith}
 use borrow.Author.Tests.{eqb-true, eqb-false, ltb-false, not-false}
 use lib.ListN.{length, get_or, length-map}
-use Rattle.algebra.specs.Lists.{countUp, padded}
-use Rattle.algebra.proofs.CountUp.{countUp-length, map-countUp}
+use Rattle.algebra.specs.Lists.{count_up, padded}
+use Rattle.algebra.proofs.CountUp.{count_up-length, map-count_up}
 use Rattle.algebra.proofs.Places.{padded-length}
 use Rattle.field.specs.Refusal.{refusal}
 use Rattle.field.proofs.Refusal.{passes}
-use Rattle.frames.specs.Limits.{mostCounted}
-use Rattle.frames.specs.Frame.{countOf, coefficientAt, coefficientsOf, disagrees, lineTests, WellFormed}
+use Rattle.frames.specs.Limits.{most_counted}
+use Rattle.frames.specs.Frame.{count_of, coefficient_at, coefficients_of, disagrees, line_tests, WellFormed}
 
-pub coefficient-count : (l : List ℕ) → length (coefficientsOf l) ≡ countOf l
-unfolding coefficientsOf
-coefficient-count l = length-map (countUp 0 (countOf l)) (coefficientAt l) ∙ countUp-length 0 (countOf l)
+pub coefficient_count : (l : List ℕ) → length (coefficients_of l) ≡ count_of l
+unfolding coefficients_of
+coefficient_count l = length-map (count_up 0 (count_of l)) (coefficient_at l) ∙ count_up-length 0 (count_of l)
 
-pub coefficient-is : (l : List ℕ) (i : ℕ) → i < countOf l → coefficientAt l i ≡ get_or (coefficientsOf l) i 0
-unfolding coefficientsOf
-coefficient-is l i h = sym (map-countUp (coefficientAt l) 0 (countOf l) i 0 h ∙ ap (coefficientAt l) (zero-add i))
+pub coefficient_is : (l : List ℕ) (i : ℕ) → i < count_of l → coefficient_at l i ≡ get_or (coefficients_of l) i 0
+unfolding coefficients_of
+coefficient_is l i h = sym (map-count_up (coefficient_at l) 0 (count_of l) i 0 h ∙ ap (coefficient_at l) (zero-add i))
 
-pub is-well-formed : (l : List ℕ) → refusal (lineTests l) ≡ 0 → WellFormed l
+pub is_well_formed : (l : List ℕ) → refusal (line_tests l) ≡ 0 → WellFormed l
 unfolding disagrees
-is-well-formed l e =
-    let w = passes (lineTests l) tt e in
+is_well_formed l e =
+    let w = passes (line_tests l) tt e in
     let even : length l % 2 ≢ 1 = eqb-false _ _ w.0 in
-    let long : length l / 2 ≡ 5 + 2 * countOf l = eqb-true _ _ (not-false _ w.1.1.1.1.0) in
+    let long : length l / 2 ≡ 5 + 2 * count_of l = eqb-true _ _ (not-false _ w.1.1.1.1.0) in
     record { short = ltb-false _ _ w.1.1.1.1.1.1.0; agrees = omega arith }
 
 -- they fit their places
-pub count_fits : (l : List ℕ) → WellFormed l → length (coefficientsOf l) ≤ mostCounted
-count_fits l w = omega (arith, coefficient-count l, w.agrees, w.short)
+pub count_fits : (l : List ℕ) → WellFormed l → length (coefficients_of l) ≤ most_counted
+count_fits l w = omega (arith, coefficient_count l, w.agrees, w.short)
 
-pub count-within : (l cs : List ℕ) (n : ℕ) → refusal (lineTests l) ≡ 0 → cs ≡ padded mostCounted (coefficientsOf l) → n ≡ countOf l → n ≤ length cs
-count-within l cs n z e q =
-    let w = is-well-formed l z in
-    let long = ap length e ∙ padded-length mostCounted (coefficientsOf l) (count_fits l w) in
-    omega (arith, long, coefficient-count l, count_fits l w)
+pub count_within : (l cs : List ℕ) (n : ℕ) → refusal (line_tests l) ≡ 0 → cs ≡ padded most_counted (coefficients_of l) → n ≡ count_of l → n ≤ length cs
+count_within l cs n z e q =
+    let w = is_well_formed l z in
+    let long = ap length e ∙ padded-length most_counted (coefficients_of l) (count_fits l w) in
+    omega (arith, long, coefficient_count l, count_fits l w)

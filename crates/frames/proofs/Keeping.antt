@@ -1,4 +1,4 @@
--- Bytes kept one after the other: `kept-turn`, `kept-all`. Assumes nothing.
+-- Bytes kept one after the other: `kept_turn`, `kept_all`. Assumes nothing.
 use mathlib.Core.Path.{◌≡◌, sym, ap, ◌∙◌}
 use mathlib.Core.List.{List, [], ◌∷◌}
 use Prim.Native.Nat.{ℕ, suc, ◌+◌, ◌-◌, ◌≤◌, ◌<◌, min}
@@ -7,8 +7,8 @@ use native.Mathlib.Nat.{min-eq_left, min-eq_right}
 use native.Mathlib.Omega.{arith}
 use lib.ListN.{length, get_or, set, take}
 use lib.Seq.{sets, take-suc, take_all, length-take-le}
-use Rattle.frames.specs.Limits.{mostDigits}
-use Rattle.frames.specs.Stream.{keptAfter}
+use Rattle.frames.specs.Limits.{most_digits}
+use Rattle.frames.specs.Stream.{kept_after}
 use Rattle.frames.proofs.Writing.{sets_then}
 
 -- all that there are, or all that there is room for
@@ -23,9 +23,9 @@ take_min k bytes = go (dec_le k (length bytes))
 
 module _ (line : List ℕ) (n : ℕ) (bytes : List ℕ) where
   -- the next of them
-  pub kept-turn : (i : ℕ) {now : List ℕ} → i < length bytes → now ≡ sets line n (take i bytes)
+  pub kept_turn : (i : ℕ) {now : List ℕ} → i < length bytes → now ≡ sets line n (take i bytes)
       → set now (n + i) (get_or bytes i 0) ≡ sets line n (take (i + 1) bytes)
-  kept-turn i h e =
+  kept_turn i h e =
       let next : suc i ≡ i + 1 = omega arith in
       let long : n + i ≡ n + length (take i bytes) = ap (λ (k : ℕ). n + k) (sym (length-take-le i bytes (omega arith))) in
       ap (λ (l : List ℕ). set l (n + i) (get_or bytes i 0)) e
@@ -34,9 +34,9 @@ module _ (line : List ℕ) (n : ℕ) (bytes : List ℕ) where
       ∙ ap (λ (k : ℕ). sets line n (take k bytes)) next
 
   -- as many as there is room for
-  pub kept-all : (fit i : ℕ) {now : List ℕ} → fit ≡ min (mostDigits - n) (length bytes) → fit ≤ i → i ≤ fit → now ≡ sets line n (take i bytes)
-      → now ≡ keptAfter n line bytes
-  unfolding keptAfter
-  kept-all fit i e g h q =
+  pub kept_all : (fit i : ℕ) {now : List ℕ} → fit ≡ min (most_digits - n) (length bytes) → fit ≤ i → i ≤ fit → now ≡ sets line n (take i bytes)
+      → now ≡ kept_after n line bytes
+  unfolding kept_after
+  kept_all fit i e g h q =
       let same : i ≡ fit = omega arith in
-      q ∙ ap (sets line n) (ap (λ (d : ℕ). take d bytes) (same ∙ e) ∙ take_min (mostDigits - n) bytes)
+      q ∙ ap (sets line n) (ap (λ (d : ℕ). take d bytes) (same ∙ e) ∙ take_min (most_digits - n) bytes)

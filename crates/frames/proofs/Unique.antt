@@ -1,7 +1,7 @@
 -- Any two answers that a promise permits are the same one. `answer_line` and `last_answer` answer a number, and the promise says which;
--- `one-progress` is for `next_answer`, whose promise says each part. Assumes nothing.
+-- `one_progress` is for `next_answer`, whose promise says each part. Assumes nothing.
 use mathlib.Core.Path.{◌≡◌}
 use Rattle.frames.specs.declared.Progress.{Progress}
 
-pub one-progress : (a b : Progress) → a.taken ≡ b.taken → a.line.length ≡ b.line.length → a.written ≡ b.written → a ≡ b
-one-progress a b e f g = λ i. record { line = record { length = f i }; taken = e i; written = g i }
+pub one_progress : (a b : Progress) → a.taken ≡ b.taken → a.line.length ≡ b.line.length → a.written ≡ b.written → a ≡ b
+one_progress a b e f g = λ i. record { line = record { length = f i }; taken = e i; written = g i }

@@ -1,4 +1,4 @@
--- Text stored into a lent list, piece after piece (`put_then`), and lengths (`text-length`, `text-append`, `up-to-length`). Assumes nothing.
+-- Text stored into a lent list, piece after piece (`put_then`), and lengths (`text-length`, `text-append`, `up_to_length`). Assumes nothing.
 use mathlib.Core.Path.{◌≡◌, refl, sym, ap, ap₂, ◌∙◌}
 use mathlib.Core.List.{List, [], ◌∷◌, ◌++◌}
 use Prim.Native.Nat.{ℕ, zero, suc, ◌+◌, ◌*◌, ◌/◌, ◌%◌}
@@ -6,7 +6,7 @@ use native.Mathlib.Nat.{mul-suc}
 use native.Mathlib.Omega.{arith}
 use lib.ListN.{length, set, length-append}
 use lib.Seq.{sets}
-use Rattle.frames.specs.Text.{capital, digits, text, up_to, putBytes}
+use Rattle.frames.specs.Text.{capital, digits, text, up_to, put_bytes}
 
 -- and then more right after them
 pub sets_then : (out xs ys : List ℕ) (i k : ℕ) → k ≡ i + length xs → sets (sets out i xs) k ys ≡ sets out i (xs ++ ys)
@@ -21,54 +21,54 @@ pub text-length : (xs : List ℕ) → length (text xs) ≡ 2 * length xs
 text-length [] = refl
 text-length (x ∷ xs) = ap (λ (n : ℕ). suc (suc n)) (text-length xs) ∙ omega arith
 
-put_both : (out xs ys : List ℕ) (j k : ℕ) → k ≡ j + length xs → putBytes (putBytes out j xs) k ys ≡ putBytes out j (xs ++ ys)
-unfolding putBytes
+put_both : (out xs ys : List ℕ) (j k : ℕ) → k ≡ j + length xs → put_bytes (put_bytes out j xs) k ys ≡ put_bytes out j (xs ++ ys)
+unfolding put_bytes
 put_both out xs ys j k e =
     sets_then out (text xs) (text ys) (2 * j) (2 * k) (omega (arith, text-length xs, e))
     ∙ ap (sets out (2 * j)) (sym (text-append xs ys))
 
 -- a piece, and then another right after it
-pub put_then : (out xs ys : List ℕ) (j k : ℕ) {mid end : List ℕ} → mid ≡ putBytes out j xs → end ≡ putBytes mid k ys → k ≡ j + length xs
-    → end ≡ putBytes out j (xs ++ ys)
-put_then out xs ys j k e f q = f ∙ ap (λ (l : List ℕ). putBytes l k ys) e ∙ put_both out xs ys j k q
+pub put_then : (out xs ys : List ℕ) (j k : ℕ) {mid end : List ℕ} → mid ≡ put_bytes out j xs → end ≡ put_bytes mid k ys → k ≡ j + length xs
+    → end ≡ put_bytes out j (xs ++ ys)
+put_then out xs ys j k e f q = f ∙ ap (λ (l : List ℕ). put_bytes l k ys) e ∙ put_both out xs ys j k q
 
-pub put-none : (out : List ℕ) (j : ℕ) → out ≡ putBytes out j []
-unfolding putBytes
-put-none out j = refl
+pub put_none : (out : List ℕ) (j : ℕ) → out ≡ put_bytes out j []
+unfolding put_bytes
+put_none out j = refl
 
 -- pieces of the same length
-pub up-to-length : (f : ℕ → List ℕ) (n k : ℕ) → ((i : ℕ) → length (f i) ≡ n) → length (up_to f k) ≡ n * k
-up-to-length f n zero h = omega arith
-up-to-length f n (suc k) h = length-append (up_to f k) (f k) ∙ ap₂ ◌+◌ (up-to-length f n k h) (h k) ∙ sym (mul-suc n k)
+pub up_to_length : (f : ℕ → List ℕ) (n k : ℕ) → ((i : ℕ) → length (f i) ≡ n) → length (up_to f k) ≡ n * k
+up_to_length f n zero h = omega arith
+up_to_length f n (suc k) h = length-append (up_to f k) (f k) ∙ ap₂ ◌+◌ (up_to_length f n k h) (h k) ∙ sym (mul-suc n k)
 
 -- all of it, as text
-pub put-text : (out xs : List ℕ) {end : List ℕ} → end ≡ putBytes out 0 xs → end ≡ sets out 0 (text xs)
-unfolding putBytes
-put-text out xs e = e
+pub put_text : (out xs : List ℕ) {end : List ℕ} → end ≡ put_bytes out 0 xs → end ≡ sets out 0 (text xs)
+unfolding put_bytes
+put_text out xs e = e
 
 -- and a character after it
-pub put-after : (out xs : List ℕ) (n c : ℕ) {end : List ℕ} → n ≡ 2 * length xs → end ≡ putBytes out 0 xs → set end n c ≡ sets out 0 (text xs ++ c ∷ [])
-put-after out xs n c e f =
-    ap (λ (l : List ℕ). set l n c) (put-text out xs f)
+pub put_after : (out xs : List ℕ) (n c : ℕ) {end : List ℕ} → n ≡ 2 * length xs → end ≡ put_bytes out 0 xs → set end n c ≡ sets out 0 (text xs ++ c ∷ [])
+put_after out xs n c e f =
+    ap (λ (l : List ℕ). set l n c) (put_text out xs f)
     ∙ sets_then out (text xs) (c ∷ []) 0 n (e ∙ omega (arith, text-length xs))
 
 -- a byte's two digits, one after the other
-pub put-digits : (out : List ℕ) (j v a b : ℕ) → a ≡ capital (v / 16 % 16) → b ≡ capital (v % 16)
-    → set (set out (2 * j) a) (2 * j + 1) b ≡ putBytes out j (v ∷ [])
-unfolding putBytes
-put-digits out j v a b e f =
+pub put_digits : (out : List ℕ) (j v a b : ℕ) → a ≡ capital (v / 16 % 16) → b ≡ capital (v % 16)
+    → set (set out (2 * j) a) (2 * j + 1) b ≡ put_bytes out j (v ∷ [])
+unfolding put_bytes
+put_digits out j v a b e f =
     let next : 2 * j + 1 ≡ suc (2 * j) = omega arith in
     ap (λ (k : ℕ). set (set out (2 * j) a) k b) next
     ∙ ap₂ (λ (x y : ℕ). set (set out (2 * j) x) (suc (2 * j)) y) e f
 
 -- one piece more
-pub put-more : (out : List ℕ) (f : ℕ → List ℕ) (n j i k : ℕ) {mid end : List ℕ} → ((i : ℕ) → length (f i) ≡ n) → mid ≡ putBytes out j (up_to f i)
-    → end ≡ putBytes mid k (f i) → k ≡ j + n * i → end ≡ putBytes out j (up_to f (i + 1))
-put-more out f n j i k h e g q =
+pub put_more : (out : List ℕ) (f : ℕ → List ℕ) (n j i k : ℕ) {mid end : List ℕ} → ((i : ℕ) → length (f i) ≡ n) → mid ≡ put_bytes out j (up_to f i)
+    → end ≡ put_bytes mid k (f i) → k ≡ j + n * i → end ≡ put_bytes out j (up_to f (i + 1))
+put_more out f n j i k h e g q =
     let next : suc i ≡ i + 1 = omega arith in
-    put_then out (up_to f i) (f i) j k e g (q ∙ ap (λ (d : ℕ). j + d) (sym (up-to-length f n i h)))
-    ∙ ap (λ (d : ℕ). putBytes out j (up_to f d)) next
+    put_then out (up_to f i) (f i) j k e g (q ∙ ap (λ (d : ℕ). j + d) (sym (up_to_length f n i h)))
+    ∙ ap (λ (d : ℕ). put_bytes out j (up_to f d)) next
 
 -- and that is all of them
-pub put_all : (out : List ℕ) (f : ℕ → List ℕ) (j i k : ℕ) {end : List ℕ} → end ≡ putBytes out j (up_to f i) → i ≡ k → end ≡ putBytes out j (up_to f k)
-put_all out f j i k e q = e ∙ ap (λ (d : ℕ). putBytes out j (up_to f d)) q
+pub put_all : (out : List ℕ) (f : ℕ → List ℕ) (j i k : ℕ) {end : List ℕ} → end ≡ put_bytes out j (up_to f i) → i ≡ k → end ≡ put_bytes out j (up_to f k)
+put_all out f j i k e q = e ∙ ap (λ (d : ℕ). put_bytes out j (up_to f d)) q

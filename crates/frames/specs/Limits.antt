@@ -2,13 +2,13 @@
 use Rattle.std.specs.Prelude.{ℕ}
 
 -- "more than 1,030 digits: malformed"
-abbrev pub mostDigits : ℕ
-mostDigits = 1030
+abbrev pub most_digits : ℕ
+most_digits = 1030
 
 -- the most coefficients that one byte can count
-abbrev pub mostCounted : ℕ
-mostCounted = 255
+abbrev pub most_counted : ℕ
+most_counted = 255
 
 -- the longest answer, of kind 02 with sixteen directions: two digits for each of 6 + 2·16 bytes, and its line feed
-abbrev pub answerRoom : ℕ
-answerRoom = 77
+abbrev pub answer_room : ℕ
+answer_room = 77

@@ -15,8 +15,8 @@ text [] = []
 text (v ∷ vs) = digits v ++ text vs
 
 -- an element in "2 bytes", high first
-abbrev pub elementBytes : ℕ → List ℕ
-elementBytes x = x / 256 ∷ x % 256 ∷ []
+abbrev pub element_bytes : ℕ → List ℕ
+element_bytes x = x / 256 ∷ x % 256 ∷ []
 
 -- f 0, then f 1, up to f (k - 1)
 abbrev pub up_to : (ℕ → List ℕ) → ℕ → List ℕ
@@ -29,5 +29,5 @@ abbrev pub Counts : ℕ → List ℕ → Type 0
 Counts n out = (n ≤ length out) × (n ≡ length (take n out))
 
 -- the lent list with the text of these bytes from byte number j on
-unfoldable pub putBytes : List ℕ → ℕ → List ℕ → List ℕ
-putBytes out j bs = sets out (2 * j) (text bs)
+unfoldable pub put_bytes : List ℕ → ℕ → List ℕ → List ℕ
+put_bytes out j bs = sets out (2 * j) (text bs)

@@ -3,10 +3,10 @@
 // that a caller who goes on in a chunk, or lends `&out[..n]`, has nothing to prove.
 ghost use Rattle.std.specs.Prelude.{◌≡◌, ◌≤◌, length};
 ghost use Rattle.std.proofs.lemmas.List.Edits.{sets};
-ghost use Rattle.frames.specs.Limits.{answerRoom};
+ghost use Rattle.frames.specs.Limits.{answer_room};
 ghost use Rattle.frames.specs.Text.{Counts};
-ghost use Rattle.frames.specs.Answer.{answerText};
-ghost use Rattle.frames.specs.Stream.{taken_of, lengthAfter, lineAfter, written_of, lastWritten};
+ghost use Rattle.frames.specs.Answer.{answer_text};
+ghost use Rattle.frames.specs.Stream.{taken_of, length_after, line_after, written_of, last_written};
 
 pub mod inner;
 pub mod limits;
@@ -34,9 +34,9 @@ pub struct Progress {
 
 // The answer to one line, without line feeds. Says how many characters it has.
 pub fn answer_line(line: &[u8], out: &mut [u8; ANSWER_ROOM]) -> usize
-    ensures value { result ≡ length (answerText line.now) }
-    ensures out_after { out.new ≡ sets out.old 0 (answerText line.now) }
-    ensures upper_bound { result ≤ answerRoom }
+    ensures value { result ≡ length (answer_text line.now) }
+    ensures out_after { out.new ≡ sets out.old 0 (answer_text line.now) }
+    ensures upper_bound { result ≤ answer_room }
     ensures counts { Counts result out.new }
 {
     let n = 2 * put_answer(out, line);
@@ -52,11 +52,11 @@ pub fn next_answer(
     out: &mut [u8; ANSWER_ROOM],
 ) -> Progress
     ensures taken_value { result.taken ≡ taken_of chunk.now }
-    ensures length_value { result.line.length ≡ lengthAfter begun.length chunk.now }
+    ensures length_value { result.line.length ≡ length_after begun.length chunk.now }
     ensures written_value { result.written ≡ length (written_of begun.length line.old chunk.now) }
-    ensures line_after { line.new ≡ lineAfter begun.length line.old chunk.now }
+    ensures line_after { line.new ≡ line_after begun.length line.old chunk.now }
     ensures out_after { out.new ≡ sets out.old 0 (written_of begun.length line.old chunk.now) }
-    ensures taken_in_bounds { (result.taken ≤ length chunk.now) × (result.written ≤ answerRoom) }
+    ensures taken_in_bounds { (result.taken ≤ length chunk.now) × (result.written ≤ answer_room) }
     ensures counts { Counts result.written out.new }
 {
     let end = until_feed(chunk);
@@ -79,9 +79,9 @@ pub fn next_answer(
 
 // At the end of the input: the answer to a last line without line feed. Says how many characters it has, 0 where there is no such line.
 pub fn last_answer(begun: OpenLine, line: &[u8; MOST_DIGITS], out: &mut [u8; ANSWER_ROOM]) -> usize
-    ensures value { result ≡ length (lastWritten begun.length line.now) }
-    ensures out_after { out.new ≡ sets out.old 0 (lastWritten begun.length line.now) }
-    ensures upper_bound { result ≤ answerRoom }
+    ensures value { result ≡ length (last_written begun.length line.now) }
+    ensures out_after { out.new ≡ sets out.old 0 (last_written begun.length line.now) }
+    ensures upper_bound { result ≤ answer_room }
     ensures counts { Counts result out.new }
 {
     if begun.length == 0 {

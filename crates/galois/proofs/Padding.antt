@@ -1,5 +1,5 @@
--- Zeros above the highest coefficient change nothing: neither the value (`value-pad`), nor the roots (`roots-pad`), nor a multiplicity
--- (`multiplicity-pad`); they are elements (`coeffs-pad`), and the whole is all zero where the rest is (`zero-pad`). Assumes nothing.
+-- Zeros above the highest coefficient change nothing: neither the value (`value_pad`), nor the roots (`roots_pad`), nor a multiplicity
+-- (`multiplicity_pad`); they are elements (`coeffs_pad`), and the whole is all zero where the rest is (`zero_pad`). Assumes nothing.
 use mathlib.Core.Path.{◌≡◌, refl, sym, ap, ap₂, ◌∙◌}
 use mathlib.Core.List.{List, [], ◌∷◌, ◌++◌}
 use Prim.Native.Nat.{ℕ, zero, suc}
@@ -10,93 +10,93 @@ use lib.Pow.{pow_pos}
 use Rattle.binary.specs.Xor.{◌⊕◌}
 use Rattle.binary.specs.Product.{product}
 use Rattle.galois.specs.Field.{Field}
-use Rattle.galois.specs.Polynomial.{value, Coeffs, AllZero, sums, withoutRoot}
-use Rattle.galois.specs.Roots.{rootsOf}
-use Rattle.galois.specs.Multiplicity.{multiplicityUpTo, multiplicity}
+use Rattle.galois.specs.Polynomial.{value, Coeffs, AllZero, sums, without_root}
+use Rattle.galois.specs.Roots.{roots_of}
+use Rattle.galois.specs.Multiplicity.{multiplicity_up_to, multiplicity}
 use Rattle.galois.proofs.Polynomial.{zero-value}
-use Rattle.galois.proofs.Divide.{withoutRoot-length, withoutRoot-zero}
-use Rattle.galois.proofs.Roots.{zero-of-quotient}
-use Rattle.galois.proofs.RootList.{roots-same}
-use Rattle.galois.proofs.Multiplicity.{multiplicity-none, multiplicity-root}
+use Rattle.galois.proofs.Divide.{without_root-length, without_root-zero}
+use Rattle.galois.proofs.Roots.{zero_of_quotient}
+use Rattle.galois.proofs.RootList.{roots_same}
+use Rattle.galois.proofs.Multiplicity.{multiplicity_none, multiplicity_root}
 
 abbrev zeros : ℕ → List ℕ
 zeros n = replicate n 0
 
 -- coefficients that are elements, and all zero
-pub coeffs-pad : (m : ℕ) (f : List ℕ) (n : ℕ) → Coeffs m f → Coeffs m (f ++ replicate n 0)
-coeffs-pad m [] zero h = tt
-coeffs-pad m [] (suc n) h = (pow_pos m, coeffs-pad m [] n tt)
-coeffs-pad m (c ∷ f) n h = (h.0, coeffs-pad m f n h.1)
+pub coeffs_pad : (m : ℕ) (f : List ℕ) (n : ℕ) → Coeffs m f → Coeffs m (f ++ replicate n 0)
+coeffs_pad m [] zero h = tt
+coeffs_pad m [] (suc n) h = (pow_pos m, coeffs_pad m [] n tt)
+coeffs_pad m (c ∷ f) n h = (h.0, coeffs_pad m f n h.1)
 
-pub coeffs-front : (m : ℕ) (f : List ℕ) (n : ℕ) → Coeffs m (f ++ replicate n 0) → Coeffs m f
-coeffs-front m [] n h = tt
-coeffs-front m (c ∷ f) n h = (h.0, coeffs-front m f n h.1)
+pub coeffs_front : (m : ℕ) (f : List ℕ) (n : ℕ) → Coeffs m (f ++ replicate n 0) → Coeffs m f
+coeffs_front m [] n h = tt
+coeffs_front m (c ∷ f) n h = (h.0, coeffs_front m f n h.1)
 
-pub pad-zero : (f : List ℕ) (n : ℕ) → AllZero f → AllZero (f ++ replicate n 0)
-pad-zero [] zero z = tt
-pad-zero [] (suc n) z = (refl, pad-zero [] n tt)
-pad-zero (c ∷ f) n z = (z.0, pad-zero f n z.1)
+pub pad_zero : (f : List ℕ) (n : ℕ) → AllZero f → AllZero (f ++ replicate n 0)
+pad_zero [] zero z = tt
+pad_zero [] (suc n) z = (refl, pad_zero [] n tt)
+pad_zero (c ∷ f) n z = (z.0, pad_zero f n z.1)
 
-pub zero-pad : (f : List ℕ) (n : ℕ) → AllZero (f ++ replicate n 0) → AllZero f
-zero-pad [] n z = tt
-zero-pad (c ∷ f) n z = (z.0, zero-pad f n z.1)
+pub zero_pad : (f : List ℕ) (n : ℕ) → AllZero (f ++ replicate n 0) → AllZero f
+zero_pad [] n z = tt
+zero_pad (c ∷ f) n z = (z.0, zero_pad f n z.1)
 
-pub value-pad : (p : ℕ) (f : List ℕ) (n x : ℕ) → value p (f ++ replicate n 0) x ≡ value p f x
+pub value_pad : (p : ℕ) (f : List ℕ) (n x : ℕ) → value p (f ++ replicate n 0) x ≡ value p f x
 unfolding value
-value-pad p [] n x = zero-value p (zeros n) x (pad-zero [] n tt)
-value-pad p (c ∷ f) n x = ap (λ (v : ℕ). c ⊕ product p x v) (value-pad p f n x)
+value_pad p [] n x = zero-value p (zeros n) x (pad_zero [] n tt)
+value_pad p (c ∷ f) n x = ap (λ (v : ℕ). c ⊕ product p x v) (value_pad p f n x)
 
-pub roots-pad : (m p : ℕ) (f : List ℕ) (n : ℕ) → rootsOf m p (f ++ replicate n 0) ≡ rootsOf m p f
-roots-pad m p f n = roots-same m p (f ++ zeros n) f (λ x h. value-pad p f n x)
+pub roots_pad : (m p : ℕ) (f : List ℕ) (n : ℕ) → roots_of m p (f ++ replicate n 0) ≡ roots_of m p f
+roots_pad m p f n = roots_same m p (f ++ zeros n) f (λ x h. value_pad p f n x)
 
 -- the quotient
-sums-zeros : (p r n : ℕ) → sums p r (zeros n) ≡ zeros n
+sums_zeros : (p r n : ℕ) → sums p r (zeros n) ≡ zeros n
 unfolding sums
-sums-zeros p r zero = refl
-sums-zeros p r (suc n) = ap₂ ◌∷◌ (zero-value p (zeros (suc n)) r (pad-zero [] (suc n) tt)) (sums-zeros p r n)
+sums_zeros p r zero = refl
+sums_zeros p r (suc n) = ap₂ ◌∷◌ (zero-value p (zeros (suc n)) r (pad_zero [] (suc n) tt)) (sums_zeros p r n)
 
-sums-pad : (p r : ℕ) (f : List ℕ) (n : ℕ) → sums p r (f ++ zeros n) ≡ sums p r f ++ zeros n
+sums_pad : (p r : ℕ) (f : List ℕ) (n : ℕ) → sums p r (f ++ zeros n) ≡ sums p r f ++ zeros n
 unfolding sums
-sums-pad p r [] n = sums-zeros p r n
-sums-pad p r (c ∷ f) n = ap₂ ◌∷◌ (value-pad p (c ∷ f) n r) (sums-pad p r f n)
+sums_pad p r [] n = sums_zeros p r n
+sums_pad p r (c ∷ f) n = ap₂ ◌∷◌ (value_pad p (c ∷ f) n r) (sums_pad p r f n)
 
-pub withoutRoot-pad : (p r c : ℕ) (f : List ℕ) (n : ℕ) → withoutRoot p r (c ∷ (f ++ replicate n 0)) ≡ withoutRoot p r (c ∷ f) ++ replicate n 0
-unfolding withoutRoot
-withoutRoot-pad p r c f n = sums-pad p r f n
+pub without_root_pad : (p r c : ℕ) (f : List ℕ) (n : ℕ) → without_root p r (c ∷ (f ++ replicate n 0)) ≡ without_root p r (c ∷ f) ++ replicate n 0
+unfolding without_root
+without_root_pad p r c f n = sums_pad p r f n
 
 -- the divisions, so many of them
-zero-multiplicityUpTo : (p r k : ℕ) (f : List ℕ) → AllZero f → multiplicityUpTo p r k f ≡ k
-unfolding multiplicityUpTo
-zero-multiplicityUpTo p r zero f z = refl
-zero-multiplicityUpTo p r (suc k) f z =
+zero-multiplicity_up_to : (p r k : ℕ) (f : List ℕ) → AllZero f → multiplicity_up_to p r k f ≡ k
+unfolding multiplicity_up_to
+zero-multiplicity_up_to p r zero f z = refl
+zero-multiplicity_up_to p r (suc k) f z =
     ap₂ (λ (v t : ℕ). elim v as (λ (_ : ℕ). ℕ) [ zero ↦ suc t | suc j ↦ 0 ]) (zero-value p f r z)
-    (zero-multiplicityUpTo p r k (withoutRoot p r f) (withoutRoot-zero p r f z))
+    (zero-multiplicity_up_to p r k (without_root p r f) (without_root-zero p r f z))
 
-pub multiplicityUpTo-pad : (p r k : ℕ) (f : List ℕ) (n : ℕ) → multiplicityUpTo p r k (f ++ replicate n 0) ≡ multiplicityUpTo p r k f
-unfolding multiplicityUpTo
-multiplicityUpTo-pad p r zero f n = refl
-multiplicityUpTo-pad p r (suc k) [] n = zero-multiplicityUpTo p r (suc k) (zeros n) (pad-zero [] n tt) ∙ sym (zero-multiplicityUpTo p r (suc k) [] tt)
-multiplicityUpTo-pad p r (suc k) (c ∷ f) n =
-    ap₂ (λ (v t : ℕ). elim v as (λ (_ : ℕ). ℕ) [ zero ↦ suc t | suc j ↦ 0 ]) (value-pad p (c ∷ f) n r)
-    (ap (multiplicityUpTo p r k) (withoutRoot-pad p r c f n) ∙ multiplicityUpTo-pad p r k (withoutRoot p r (c ∷ f)) n)
+pub multiplicity_up_to_pad : (p r k : ℕ) (f : List ℕ) (n : ℕ) → multiplicity_up_to p r k (f ++ replicate n 0) ≡ multiplicity_up_to p r k f
+unfolding multiplicity_up_to
+multiplicity_up_to_pad p r zero f n = refl
+multiplicity_up_to_pad p r (suc k) [] n = zero-multiplicity_up_to p r (suc k) (zeros n) (pad_zero [] n tt) ∙ sym (zero-multiplicity_up_to p r (suc k) [] tt)
+multiplicity_up_to_pad p r (suc k) (c ∷ f) n =
+    ap₂ (λ (v t : ℕ). elim v as (λ (_ : ℕ). ℕ) [ zero ↦ suc t | suc j ↦ 0 ]) (value_pad p (c ∷ f) n r)
+    (ap (multiplicity_up_to p r k) (without_root_pad p r c f n) ∙ multiplicity_up_to_pad p r k (without_root p r (c ∷ f)) n)
 
 module _ (m p : ℕ) (F : Field m p) (r n : ℕ) where
-  pad-at : (k : ℕ) (f : List ℕ) → length f ≡ k → (AllZero f → ⊥) → multiplicity p r (f ++ zeros n) ≡ multiplicity p r f
-  pad-at zero [] e z = absurd (z tt)
-  pad-at zero (c ∷ f) e z = absurd (omega arith)
-  pad-at (suc k) [] e z = absurd (z tt)
-  pad-at (suc k) (c ∷ f) e z =
+  pad_at : (k : ℕ) (f : List ℕ) → length f ≡ k → (AllZero f → ⊥) → multiplicity p r (f ++ zeros n) ≡ multiplicity p r f
+  pad_at zero [] e z = absurd (z tt)
+  pad_at zero (c ∷ f) e z = absurd (omega arith)
+  pad_at (suc k) [] e z = absurd (z tt)
+  pad_at (suc k) (c ∷ f) e z =
       go (ℕ_discrete (value p (c ∷ f) r) 0)
-      (λ y. pad-at k (withoutRoot p r (c ∷ f)) (let l = withoutRoot-length p r c f in omega arith) (λ w. z (zero-of-quotient m p F c r f y w)))
+      (λ y. pad_at k (without_root p r (c ∷ f)) (let l = without_root-length p r c f in omega arith) (λ w. z (zero_of_quotient m p F c r f y w)))
     where
       go : Dec (value p (c ∷ f) r ≡ 0)
-          → (value p (c ∷ f) r ≡ 0 → multiplicity p r (withoutRoot p r (c ∷ f) ++ zeros n) ≡ multiplicity p r (withoutRoot p r (c ∷ f)))
+          → (value p (c ∷ f) r ≡ 0 → multiplicity p r (without_root p r (c ∷ f) ++ zeros n) ≡ multiplicity p r (without_root p r (c ∷ f)))
           → multiplicity p r (c ∷ (f ++ zeros n)) ≡ multiplicity p r (c ∷ f)
       go (yes y) ih =
-          multiplicity-root p r c (f ++ zeros n) (value-pad p (c ∷ f) n r ∙ y)
-          ∙ ap suc (ap (multiplicity p r) (withoutRoot-pad p r c f n) ∙ ih y) ∙ sym (multiplicity-root p r c f y)
+          multiplicity_root p r c (f ++ zeros n) (value_pad p (c ∷ f) n r ∙ y)
+          ∙ ap suc (ap (multiplicity p r) (without_root_pad p r c f n) ∙ ih y) ∙ sym (multiplicity_root p r c f y)
       go (no y) ih =
-          multiplicity-none p r (c ∷ (f ++ zeros n)) (λ w. y (sym (value-pad p (c ∷ f) n r) ∙ w)) ∙ sym (multiplicity-none p r (c ∷ f) y)
+          multiplicity_none p r (c ∷ (f ++ zeros n)) (λ w. y (sym (value_pad p (c ∷ f) n r) ∙ w)) ∙ sym (multiplicity_none p r (c ∷ f) y)
 
-  pub multiplicity-pad : (f : List ℕ) → (AllZero f → ⊥) → multiplicity p r (f ++ replicate n 0) ≡ multiplicity p r f
-  multiplicity-pad f z = pad-at (length f) f refl z
+  pub multiplicity_pad : (f : List ℕ) → (AllZero f → ⊥) → multiplicity p r (f ++ replicate n 0) ≡ multiplicity p r f
+  multiplicity_pad f z = pad_at (length f) f refl z

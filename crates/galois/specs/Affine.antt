@@ -4,10 +4,10 @@ use Rattle.binary.specs.Xor.{◌⊕◌}
 use Rattle.binary.specs.Product.{product}
 
 -- the linear part: "l0·x + l1·x^2 + l2·x^4 + ..."
-unfoldable pub linearAt : ℕ → List ℕ → ℕ → ℕ
-linearAt p [] x = 0
-linearAt p (l ∷ ls) x = product p l x ⊕ linearAt p ls (product p x x)
+unfoldable pub linear_at : ℕ → List ℕ → ℕ → ℕ
+linear_at p [] x = 0
+linear_at p (l ∷ ls) x = product p l x ⊕ linear_at p ls (product p x x)
 
 -- the whole: "c + l0·x + l1·x^2 + l2·x^4 + ..."
-unfoldable pub affineAt : ℕ → ℕ → List ℕ → ℕ → ℕ
-affineAt p c ls x = c ⊕ linearAt p ls x
+unfoldable pub affine_at : ℕ → ℕ → List ℕ → ℕ → ℕ
+affine_at p c ls x = c ⊕ linear_at p ls x

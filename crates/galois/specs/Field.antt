@@ -13,14 +13,14 @@ pub record Field (m p : ℕ) : Type 0 where
 pub record FieldLaws (m p : ℕ) : Type 0 where
   pub sum_lt : (a b : ℕ) → a < 2 ^ m → b < 2 ^ m → a ⊕ b < 2 ^ m
   pub sum_comm : (a b : ℕ) → a ⊕ b ≡ b ⊕ a
-  pub sum-assoc : (a b c : ℕ) → (a ⊕ b) ⊕ c ≡ a ⊕ (b ⊕ c)
+  pub sum_assoc : (a b c : ℕ) → (a ⊕ b) ⊕ c ≡ a ⊕ (b ⊕ c)
   pub sum-zero : (a : ℕ) → a ⊕ 0 ≡ a
   pub sum_self : (a : ℕ) → a ⊕ a ≡ 0
   pub product_lt : (a b : ℕ) → product p a b < 2 ^ m
-  pub product-comm : (a b : ℕ) → product p a b ≡ product p b a
-  pub product-assoc : (a b c : ℕ) → product p (product p a b) c ≡ product p a (product p b c)
-  pub product-one : (a : ℕ) → a < 2 ^ m → product p a 1 ≡ a
+  pub product_comm : (a b : ℕ) → product p a b ≡ product p b a
+  pub product_assoc : (a b c : ℕ) → product p (product p a b) c ≡ product p a (product p b c)
+  pub product_one : (a : ℕ) → a < 2 ^ m → product p a 1 ≡ a
   pub product-sum : (a b c : ℕ) → product p a (b ⊕ c) ≡ product p a b ⊕ product p a c
-  pub one-element : 1 < 2 ^ m
+  pub one_element : 1 < 2 ^ m
   pub inverse : (a : ℕ) → a ≢ 0 → a < 2 ^ m → (s : ℕ) × (s < 2 ^ m) × (product p a s ≡ 1)
-  pub no-zero-divisors : (a b : ℕ) → a ≢ 0 → a < 2 ^ m → b < 2 ^ m → product p a b ≡ 0 → b ≡ 0
+  pub no_zero_divisors : (a b : ℕ) → a ≢ 0 → a < 2 ^ m → b < 2 ^ m → product p a b ≡ 0 → b ≡ 0

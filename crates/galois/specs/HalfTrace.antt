@@ -4,6 +4,6 @@ use Rattle.binary.specs.Xor.{◌⊕◌}
 use Rattle.galois.specs.Power.{squares}
 
 -- the first n of its (m + 1) / 2 terms
-unfoldable pub halfTrace : ℕ → ℕ → ℕ → ℕ
-halfTrace p zero c = 0
-halfTrace p (suc n) c = halfTrace p n c ⊕ squares p (2 * n) c
+unfoldable pub half_trace : ℕ → ℕ → ℕ → ℕ
+half_trace p zero c = 0
+half_trace p (suc n) c = half_trace p n c ⊕ squares p (2 * n) c

@@ -35,9 +35,9 @@ sums p r [] = []
 sums p r (c ∷ f) = value p (c ∷ f) r ∷ sums p r f
 
 -- the quotient by x + r
-unfoldable pub withoutRoot : ℕ → ℕ → List ℕ → List ℕ
-withoutRoot p r [] = []
-withoutRoot p r (c ∷ f) = sums p r f
+unfoldable pub without_root : ℕ → ℕ → List ℕ → List ℕ
+without_root p r [] = []
+without_root p r (c ∷ f) = sums p r f
 
 -- b + (x + a)·f
 unfoldable pub shifted : ℕ → ℕ → ℕ → List ℕ → List ℕ
@@ -45,20 +45,20 @@ shifted p a b [] = b ∷ []
 shifted p a b (c ∷ f) = (b ⊕ product p a c) ∷ shifted p a c f
 
 -- (x + a)·f
-unfoldable pub withRoot : ℕ → ℕ → List ℕ → List ℕ
-withRoot p a f = shifted p a 0 f
+unfoldable pub with_root : ℕ → ℕ → List ℕ → List ℕ
+with_root p a f = shifted p a 0 f
 
 -- (x + a1)·..·(x + an)
 unfoldable pub build : ℕ → List ℕ → List ℕ
 build p [] = 1 ∷ []
-build p (a ∷ rs) = withRoot p a (build p rs)
+build p (a ∷ rs) = with_root p a (build p rs)
 
 -- its value at x, factor by factor: (x + a1)·..·(x + an)
-unfoldable pub factorsAt : ℕ → List ℕ → ℕ → ℕ
-factorsAt p [] x = 1
-factorsAt p (r ∷ rs) x = product p (x ⊕ r) (factorsAt p rs x)
+unfoldable pub factors_at : ℕ → List ℕ → ℕ → ℕ
+factors_at p [] x = 1
+factors_at p (r ∷ rs) x = product p (x ⊕ r) (factors_at p rs x)
 
 -- (x + r)^k·f
-unfoldable pub withRootOften : ℕ → ℕ → ℕ → List ℕ → List ℕ
-withRootOften p r zero f = f
-withRootOften p r (suc k) f = withRoot p r (withRootOften p r k f)
+unfoldable pub with_root_often : ℕ → ℕ → ℕ → List ℕ → List ℕ
+with_root_often p r zero f = f
+with_root_often p r (suc k) f = with_root p r (with_root_often p r k f)

@@ -4,9 +4,9 @@ use Rattle.binary.specs.Xor.{◌⊕◌}
 use Rattle.galois.specs.Power.{squares}
 
 -- the first k terms
-unfoldable pub partTrace : ℕ → ℕ → ℕ → ℕ
-partTrace p zero c = 0
-partTrace p (suc k) c = partTrace p k c ⊕ squares p k c
+unfoldable pub part_trace : ℕ → ℕ → ℕ → ℕ
+part_trace p zero c = 0
+part_trace p (suc k) c = part_trace p k c ⊕ squares p k c
 
 abbrev pub trace : ℕ → ℕ → ℕ → ℕ
-trace m p c = partTrace p m c
+trace m p c = part_trace p m c

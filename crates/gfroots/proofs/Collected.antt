@@ -1,12 +1,12 @@
--- Where an answer is put: after what waits (`keeps-place`), or at the front (`from_front`). Assumes nothing.
+-- Where an answer is put: after what waits (`keeps_place`), or at the front (`from_front`). Assumes nothing.
 use mathlib.Core.Path.{◌≡◌, refl}
 use Prim.Native.Nat.{ℕ, ◌+◌, ◌≤◌, ◌<◌}
 use borrow.Author.Tests.{le-leb, lt-leb}
-use Rattle.frames.specs.Limits.{answerRoom}
-use Rattle.gfroots.specs.Output.{outputRoom, nextPlace}
+use Rattle.frames.specs.Limits.{answer_room}
+use Rattle.gfroots.specs.Output.{output_room, next_place}
 
-pub keeps-place : (w : ℕ) → w + answerRoom ≤ outputRoom → w ≡ nextPlace w
-keeps-place w h = rw (nextPlace, le-leb (w + answerRoom) outputRoom h) refl
+pub keeps_place : (w : ℕ) → w + answer_room ≤ output_room → w ≡ next_place w
+keeps_place w h = rw (next_place, le-leb (w + answer_room) output_room h) refl
 
-pub from_front : (w : ℕ) → outputRoom < w + answerRoom → 0 ≡ nextPlace w
-from_front w h = rw (nextPlace, lt-leb (w + answerRoom) outputRoom h) refl
+pub from_front : (w : ℕ) → output_room < w + answer_room → 0 ≡ next_place w
+from_front w h = rw (next_place, lt-leb (w + answer_room) output_room h) refl

@@ -2,7 +2,7 @@
 // however the input is cut into reads, is proved of `frames`; here is only the reading and the writing.
 ghost use Rattle.std.specs.Prelude.{◌≡◌, ◌≤◌};
 ghost use Rattle.frames.specs.Stream.{taken_of};
-ghost use Rattle.gfroots.specs.Output.{outputRoom};
+ghost use Rattle.gfroots.specs.Output.{output_room};
 
 mod output;
 
@@ -39,8 +39,8 @@ fn call(
     chunk: &[u8],
     buffer: &mut [u8; OUTPUT_ROOM],
 ) -> Called
-    requires { s.output.waiting ≤ outputRoom }
-    ensures waiting_le_output_room { result.state.output.waiting ≤ outputRoom }
+    requires { s.output.waiting ≤ output_room }
+    ensures waiting_le_output_room { result.state.output.waiting ≤ output_room }
     ensures taken_value { result.taken ≡ taken_of chunk.now }
 {
     let mut answer: [u8; ANSWER_ROOM] = [0; ANSWER_ROOM];
@@ -61,8 +61,8 @@ fn worked(
     chunk: &[u8],
     buffer: &mut [u8; OUTPUT_ROOM],
 ) -> State
-    requires { s.output.waiting ≤ outputRoom }
-    ensures { result.output.waiting ≤ outputRoom }
+    requires { s.output.waiting ≤ output_room }
+    ensures { result.output.waiting ≤ output_room }
 {
     let mut state = s;
     let mut at = 0;
@@ -79,8 +79,8 @@ fn worked(
 
 // A read has failed, and the line that had begun is not whole: it is forgotten, so that no part of a line is answered as if it were one.
 fn cut_off(s: State) -> After
-    requires { s.output.waiting ≤ outputRoom }
-    ensures { result.state.output.waiting ≤ outputRoom }
+    requires { s.output.waiting ≤ output_room }
+    ensures { result.state.output.waiting ≤ output_room }
 {
     io::write_all(
         STDERR_FILENO,
@@ -103,8 +103,8 @@ fn turn(
     chunk: &mut [u8],
     buffer: &mut [u8; OUTPUT_ROOM],
 ) -> After
-    requires { s.output.waiting ≤ outputRoom }
-    ensures { result.state.output.waiting ≤ outputRoom }
+    requires { s.output.waiting ≤ output_room }
+    ensures { result.state.output.waiting ≤ output_room }
 {
     let got = libc::read(STDIN_FILENO, chunk);
     if got < 0 {
@@ -128,7 +128,7 @@ fn turn(
 
 // Reads to the end of the input.
 fn all(line: &mut [u8; MOST_DIGITS], chunk: &mut [u8], buffer: &mut [u8; OUTPUT_ROOM]) -> State
-    ensures { result.output.waiting ≤ outputRoom }
+    ensures { result.output.waiting ≤ output_room }
 {
     let mut state = State {
         begun: OpenLine { length: 0 },
@@ -151,7 +151,7 @@ fn all(line: &mut [u8; MOST_DIGITS], chunk: &mut [u8], buffer: &mut [u8; OUTPUT_
 
 // A last line without line feed counts.
 fn last(s: State, line: &[u8; MOST_DIGITS], buffer: &mut [u8; OUTPUT_ROOM])
-    requires { s.output.waiting ≤ outputRoom }
+    requires { s.output.waiting ≤ output_room }
 {
     let mut answer: [u8; ANSWER_ROOM] = [0; ANSWER_ROOM];
     let written = frames::last_answer(s.begun, line, &mut answer);

@@ -1,8 +1,8 @@
 // The output, collected in a lent buffer, which is handed on when it has no room for a further answer and after each read.
 ghost use Rattle.std.specs.Prelude.{◌≡◌, ◌+◌, ◌≤◌, length};
 ghost use Rattle.std.proofs.lemmas.List.Edits.{sets};
-ghost use Rattle.frames.specs.Limits.{answerRoom};
-ghost use Rattle.gfroots.specs.Output.{outputRoom, nextPlace};
+ghost use Rattle.frames.specs.Limits.{answer_room};
+ghost use Rattle.gfroots.specs.Output.{output_room, next_place};
 
 use frames::limits::ANSWER_ROOM;
 use libc::{STDERR_FILENO, STDOUT_FILENO};
@@ -48,9 +48,9 @@ pub fn handed_on(o: Output, buffer: &[u8]) -> Output
 
 // Room for one answer more.
 fn with_room(o: Output, buffer: &[u8; OUTPUT_ROOM]) -> Output
-    requires { o.waiting ≤ outputRoom }
-    ensures waiting_value { result.waiting ≡ nextPlace o.waiting }
-    ensures answer_room_bound { result.waiting + answerRoom ≤ outputRoom }
+    requires { o.waiting ≤ output_room }
+    ensures waiting_value { result.waiting ≡ next_place o.waiting }
+    ensures answer_room_bound { result.waiting + answer_room ≤ output_room }
 {
     if o.waiting + ANSWER_ROOM <= OUTPUT_ROOM {
         return o;
@@ -59,7 +59,7 @@ fn with_room(o: Output, buffer: &[u8; OUTPUT_ROOM]) -> Output
 }
 
 fn copy(buffer: &mut [u8; OUTPUT_ROOM], at: usize, text: &[u8])
-    requires { at + length text.now ≤ outputRoom }
+    requires { at + length text.now ≤ output_room }
     ensures { buffer.new ≡ sets buffer.old at text.now }
 {
     for i in 0..text.len() {
@@ -69,10 +69,10 @@ fn copy(buffer: &mut [u8; OUTPUT_ROOM], at: usize, text: &[u8])
 
 // An answer, added after what waits.
 pub fn with_answer(o: Output, buffer: &mut [u8; OUTPUT_ROOM], text: &[u8]) -> Output
-    requires { (o.waiting ≤ outputRoom) × (length text.now ≤ answerRoom) }
-    ensures waiting_value { result.waiting ≡ nextPlace o.waiting + length text.now }
-    ensures waiting_le_output_room { result.waiting ≤ outputRoom }
-    ensures buffer_after { buffer.new ≡ sets buffer.old (nextPlace o.waiting) text.now }
+    requires { (o.waiting ≤ output_room) × (length text.now ≤ answer_room) }
+    ensures waiting_value { result.waiting ≡ next_place o.waiting + length text.now }
+    ensures waiting_le_output_room { result.waiting ≤ output_room }
+    ensures buffer_after { buffer.new ≡ sets buffer.old (next_place o.waiting) text.now }
 {
     let p = with_room(o, buffer);
     copy(buffer, p.waiting, text);

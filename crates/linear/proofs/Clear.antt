@@ -8,11 +8,11 @@ use native.Mathlib.Omega.{arith}
 use native.Mathlib.Decide.{ℕ_discrete}
 use lib.ListN.{length, get_or, set, length-set, length-map, get_or-map}
 use lib.Seq.{get_or-set_same, get_or-set_other}
-use Rattle.algebra.proofs.Filled.{Filled, filled-change, filled-all}
+use Rattle.algebra.proofs.Filled.{Filled, filled_change, filled_all}
 use Rattle.binary.specs.Xor.{◌⊕◌}
 use Rattle.binary.specs.Bit.{bit}
-use Rattle.binary.proofs.Xor.{zero_xor, xor-zero, by-digit}
-use Rattle.binary.proofs.Bit.{bit-lt, bit-zero}
+use Rattle.binary.proofs.Xor.{zero_xor, xor-zero, by_digit}
+use Rattle.binary.proofs.Bit.{bit_lt, bit-zero}
 use Rattle.linear.specs.Elimination.{clear}
 
 -- 0 where two places are the same, 1 where they differ
@@ -24,19 +24,19 @@ unfoldable pub wants : ℕ → ℕ → List ℕ → ℕ → ℕ
 wants k p l j = apart j p * bit k (get_or l j 0)
 
 digits_lt : (d e : ℕ) → d < 2 → e < 2 → d * e < 2
-digits_lt d e h l = by-digit (λ (d : ℕ). d * e < 2) (omega arith) (omega arith) d h
+digits_lt d e h l = by_digit (λ (d : ℕ). d * e < 2) (omega arith) (omega arith) d h
 
-pub wants-lt : (k p : ℕ) (l : List ℕ) (j : ℕ) → wants k p l j < 2
+pub wants_lt : (k p : ℕ) (l : List ℕ) (j : ℕ) → wants k p l j < 2
 unfolding wants apart
-wants-lt k p l j = digits_lt (apart j p) (bit k (get_or l j 0)) (omega arith) (bit-lt k (get_or l j 0))
+wants_lt k p l j = digits_lt (apart j p) (bit k (get_or l j 0)) (omega arith) (bit_lt k (get_or l j 0))
 
-pub wants-self : (k p : ℕ) (l : List ℕ) → wants k p l p ≡ 0
+pub wants_self : (k p : ℕ) (l : List ℕ) → wants k p l p ≡ 0
 unfolding wants apart
-wants-self k p l = let z : apart p p ≡ 0 = omega arith in rw z (zero-mul _)
+wants_self k p l = let z : apart p p ≡ 0 = omega arith in rw z (zero-mul _)
 
-pub wants-other : (k p : ℕ) (l : List ℕ) (j : ℕ) → j ≢ p → wants k p l j ≡ bit k (get_or l j 0)
+pub wants_other : (k p : ℕ) (l : List ℕ) (j : ℕ) → j ≢ p → wants k p l j ≡ bit k (get_or l j 0)
 unfolding wants apart
-wants-other k p l j h = let o : apart j p ≡ 1 = omega arith in rw o (one-mul _)
+wants_other k p l j h = let o : apart j p ≡ 1 = omega arith in rw o (one-mul _)
 
 pub clear-length : (k p : ℕ) (l : List ℕ) → length (clear k p l) ≡ length l
 unfolding clear
@@ -49,11 +49,11 @@ abbrev pub plus : ℕ → ℕ → ℕ → ℕ
 plus k pivot row = row ⊕ bit k row * pivot
 
 -- nothing is added to the row 0, and so to what stands past the end
-pub plus-zero : (k pivot : ℕ) → plus k pivot 0 ≡ 0
-plus-zero k pivot = zero_xor _ ∙ ap (λ (d : ℕ). d * pivot) (bit-zero k) ∙ zero-mul _
+pub plus_zero : (k pivot : ℕ) → plus k pivot 0 ≡ 0
+plus_zero k pivot = zero_xor _ ∙ ap (λ (d : ℕ). d * pivot) (bit-zero k) ∙ zero-mul _
 
-pub plus-at : (k pivot : ℕ) (l : List ℕ) (j : ℕ) → get_or (map (plus k pivot) l) j 0 ≡ plus k pivot (get_or l j 0)
-plus-at k pivot l j = ap (get_or (map (plus k pivot) l) j) (sym (plus-zero k pivot)) ∙ get_or-map (plus k pivot) l j 0
+pub plus_at : (k pivot : ℕ) (l : List ℕ) (j : ℕ) → get_or (map (plus k pivot) l) j 0 ≡ plus k pivot (get_or l j 0)
+plus_at k pivot l j = ap (get_or (map (plus k pivot) l) j) (sym (plus_zero k pivot)) ∙ get_or-map (plus k pivot) l j 0
 
 -- every row after the column
 pub clear-row : (k p : ℕ) (l : List ℕ) → p < length l → (j : ℕ) → get_or (clear k p l) j 0 ≡ get_or l j 0 ⊕ wants k p l j * get_or l p 0
@@ -65,17 +65,17 @@ clear-row k p l lp j = pick (ℕ_discrete j p)
 
     pick : Dec (j ≡ p) → get_or (set (map f l) p (get_or l p 0)) j 0 ≡ get_or l j 0 ⊕ wants k p l j * get_or l p 0
     pick (yes e) =
-        rw (e, wants-self k p l, zero-mul, xor-zero) (get_or-set_same (map f l) p (get_or l p 0) 0 (omega (arith, length-map l f)))
-    pick (no h) = get_or-set_other (map f l) p j (get_or l p 0) 0 h ∙ plus-at k (get_or l p 0) l j ∙ rw (wants-other k p l j h)
+        rw (e, wants_self k p l, zero-mul, xor-zero) (get_or-set_same (map f l) p (get_or l p 0) 0 (omega (arith, length-map l f)))
+    pick (no h) = get_or-set_other (map f l) p j (get_or l p 0) 0 h ∙ plus_at k (get_or l p 0) l j ∙ rw (wants_other k p l j h)
 
 -- the code's loop over the rows, and what it has done at its end
 pub clear-turn : (k pivot : ℕ) (old out : List ℕ) (i v : ℕ) → i < length old → v ≡ plus k pivot (get_or out i 0)
     → Filled (λ j. plus k pivot (get_or old j 0)) old out i → Filled (λ j. plus k pivot (get_or old j 0)) old (set out i v) (i + 1)
-clear-turn k pivot old out i v h e w = filled-change (λ j. plus k pivot) old out i v h e w
+clear-turn k pivot old out i v h e w = filled_change (λ j. plus k pivot) old out i v h e w
 
-pub clear-end : (k p : ℕ) (old out : List ℕ) (i : ℕ) → length old ≤ i → Filled (λ j. plus k (get_or old p 0) (get_or old j 0)) old out i
+pub clear_end : (k p : ℕ) (old out : List ℕ) (i : ℕ) → length old ≤ i → Filled (λ j. plus k (get_or old p 0) (get_or old j 0)) old out i
     → set out p (get_or old p 0) ≡ clear k p old
 unfolding clear
-clear-end k p old out i h w =
+clear_end k p old out i h w =
     ap (λ (l : List ℕ). set l p (get_or old p 0))
-    (filled-all _ old out (map (plus k (get_or old p 0)) old) i w h (length-map old (plus k (get_or old p 0))) (λ j l. plus-at k (get_or old p 0) old j))
+    (filled_all _ old out (map (plus k (get_or old p 0)) old) i w h (length-map old (plus k (get_or old p 0))) (λ j l. plus_at k (get_or old p 0) old j))

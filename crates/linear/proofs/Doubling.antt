@@ -1,5 +1,5 @@
 -- All solutions by doubling. A part of a list repeated after itself with d added, one entry a turn (`Doubled`); choices of the first
--- j + 1 directions from those of the first j (`choose-above`); and the list after j directions (`Listing`). Assumes nothing.
+-- j + 1 directions from those of the first j (`choose_above`); and the list after j directions (`Listing`). Assumes nothing.
 use mathlib.Core.Path.{◌≡◌, refl, sym, ap, ap₂, ◌∙◌}
 use mathlib.Core.List.{List, ◌∷◌, ◌++◌, map, map-append}
 use Prim.Native.Nat.{ℕ, zero, suc, ◌+◌, ◌*◌, ◌^◌, ◌≤◌, ◌<◌}
@@ -9,12 +9,12 @@ use lib.Bits.{bit_xor, xor_shifted}
 use lib.Pow.{pow_pos, pow_mono}
 use lib.ListN.{length, get_or, set, take, drop, length-set, length-append, length-map, get_or-append, get_or-map}
 use lib.Seq.{paste, paste-zero, paste-suc, length-take-le, get_or-take, take_at, drop_at, drop-drop, drop-set-lt, set_split}
-use Rattle.algebra.specs.Lists.{countUp}
-use Rattle.algebra.proofs.CountUp.{countUp-length}
+use Rattle.algebra.specs.Lists.{count_up}
+use Rattle.algebra.proofs.CountUp.{count_up-length}
 use Rattle.binary.specs.Xor.{◌⊕◌}
-use Rattle.binary.proofs.Xor.{is-xor, xor-zero, xor_comm, xor_assoc}
+use Rattle.binary.proofs.Xor.{is_xor, xor-zero, xor_comm, xor_assoc}
 use Rattle.linear.specs.Directions.{choose}
-use Rattle.linear.proofs.Choose.{choose-zero, choose-xor, choose-pow}
+use Rattle.linear.proofs.Choose.{choose-zero, choose-xor, choose_pow}
 
 -- ---- a part repeated after itself
 
@@ -24,8 +24,8 @@ pub record Doubled (d n : ℕ) (old out : List ℕ) (i : ℕ) : Type 0 where
   pub long : length out ≡ length old
   pub is : out ≡ paste old n (map (λ x. x ⊕ d) old) i
 
-pub doubled-start : (d n : ℕ) (old : List ℕ) → Doubled d n old old 0
-doubled-start d n old = record { within = omega arith; long = refl; is = paste-zero old n (map (λ x. x ⊕ d) old) }
+pub doubled_start : (d n : ℕ) (old : List ℕ) → Doubled d n old old 0
+doubled_start d n old = record { within = omega arith; long = refl; is = paste-zero old n (map (λ x. x ⊕ d) old) }
 
 module _ {d n : ℕ} {old out : List ℕ} {i : ℕ} (D : Doubled d n old out i) where
   -- the first n entries are as they were
@@ -37,11 +37,11 @@ module _ {d n : ℕ} {old out : List ℕ} {i : ℕ} (D : Doubled d n old out i) 
       ∙ get_or-append (take n old ++ t) (drop (n + i) old) 0 i (omega (arith, length-append (take n old) t))
       ∙ get_or-append (take n old) t 0 i (omega arith) ∙ get_or-take n old i 0 h
 
-  pub doubled-turn : n + n ≤ length old → i < n → Doubled d n old (set out (n + i) (bit_xor (get_or out i 0) d)) (i + 1)
-  doubled-turn fits h =
+  pub doubled_turn : n + n ≤ length old → i < n → Doubled d n old (set out (n + i) (bit_xor (get_or out i 0) d)) (i + 1)
+  doubled_turn fits h =
       let f : ℕ → ℕ = λ x. x ⊕ d in
       let one : suc i ≡ i + 1 = omega arith in
-      let v = sym (is-xor (get_or out i 0) d) ∙ ap f (kept (omega arith) h) ∙ sym (get_or-map f old i 0) in
+      let v = sym (is_xor (get_or out i 0) d) ∙ ap f (kept (omega arith) h) ∙ sym (get_or-map f old i 0) in
       record {
         within = omega arith;
         long = length-set out (n + i) (bit_xor (get_or out i 0) d) ∙ D.long;
@@ -50,13 +50,13 @@ module _ {d n : ℕ} {old out : List ℕ} {i : ℕ} (D : Doubled d n old out i) 
             ∙ ap (paste old n (map f old)) one;
       }
 
-  pub doubled-end : n ≤ i → out ≡ paste old n (map (λ x. x ⊕ d) old) n
-  doubled-end h = let e : i ≡ n = omega (arith, D.within) in D.is ∙ ap (paste old n (map (λ x. x ⊕ d) old)) e
+  pub doubled_end : n ≤ i → out ≡ paste old n (map (λ x. x ⊕ d) old) n
+  doubled_end h = let e : i ≡ n = omega (arith, D.within) in D.is ∙ ap (paste old n (map (λ x. x ⊕ d) old)) e
 
 -- the part repeated, where it is p
-double-front : (f : ℕ → ℕ) (p old : List ℕ) (n : ℕ) → length p ≡ n
+double_front : (f : ℕ → ℕ) (p old : List ℕ) (n : ℕ) → length p ≡ n
     → paste (p ++ drop n old) n (map f (p ++ drop n old)) n ≡ p ++ map f p ++ drop (n + n) old
-double-front f p old n e =
+double_front f p old n e =
     ap₂ (λ (a b : List ℕ). a ++ take n b ++ drop (n + n) (p ++ drop n old)) (take_at p (drop n old) n e) (map-append f p (drop n old))
     ∙ ap₂ (λ (a b : List ℕ). p ++ a ++ b) (take_at (map f p) (map f (drop n old)) n (length-map p f ∙ e))
     (sym (drop-drop n n (p ++ drop n old)) ∙ ap (drop n) (drop_at p (drop n old) n e) ∙ drop-drop n n old)
@@ -64,50 +64,50 @@ double-front f p old n e =
 -- ---- choices
 
 power-xor : (j k : ℕ) → k < 2 ^ j → 2 ^ j ⊕ k ≡ 2 ^ j + k
-power-xor j k h = is-xor (2 ^ j) k ∙ rw one-mul at (xor_shifted 1 j k h)
+power-xor j k h = is_xor (2 ^ j) k ∙ rw one-mul at (xor_shifted 1 j k h)
 
 -- bit j chooses the entry at place j as well
-pub choose-above : (ds : List ℕ) (j k : ℕ) → j < length ds → k < 2 ^ j → choose ds (2 ^ j + k) ≡ choose ds k ⊕ get_or ds j 0
-choose-above ds j k l h =
-    ap (choose ds) (sym (power-xor j k h)) ∙ choose-xor ds (2 ^ j) k ∙ ap (λ (x : ℕ). x ⊕ choose ds k) (choose-pow ds j l)
+pub choose_above : (ds : List ℕ) (j k : ℕ) → j < length ds → k < 2 ^ j → choose ds (2 ^ j + k) ≡ choose ds k ⊕ get_or ds j 0
+choose_above ds j k l h =
+    ap (choose ds) (sym (power-xor j k h)) ∙ choose-xor ds (2 ^ j) k ∙ ap (λ (x : ℕ). x ⊕ choose ds k) (choose_pow ds j l)
     ∙ xor_comm (get_or ds j 0) (choose ds k)
 
-countUp-add : (k n m : ℕ) → countUp k (n + m) ≡ countUp k n ++ countUp (k + n) m
-countUp-add k zero m =
+count_up-add : (k n m : ℕ) → count_up k (n + m) ≡ count_up k n ++ count_up (k + n) m
+count_up-add k zero m =
     let p : 0 + m ≡ m = omega arith in
     let q : k ≡ k + 0 = omega arith in
-    ap (countUp k) p ∙ ap (λ (a : ℕ). countUp a m) q
-countUp-add k (suc n) m =
+    ap (count_up k) p ∙ ap (λ (a : ℕ). count_up a m) q
+count_up-add k (suc n) m =
     let p : suc n + m ≡ suc (n + m) = omega arith in
     let q : suc k + n ≡ k + suc n = omega arith in
-    ap (countUp k) p ∙ ap (λ (l : List ℕ). k ∷ l) (countUp-add (suc k) n m ∙ ap (λ (a : ℕ). countUp (suc k) n ++ countUp a m) q)
+    ap (count_up k) p ∙ ap (λ (l : List ℕ). k ∷ l) (count_up-add (suc k) n m ∙ ap (λ (a : ℕ). count_up (suc k) n ++ count_up a m) q)
 
 -- f at n more is g of f
-map-above : (f g : ℕ → ℕ) (n k m : ℕ) → ((i : ℕ) → i < k + m → f (n + i) ≡ g (f i)) → map f (countUp (n + k) m) ≡ map g (map f (countUp k m))
-map-above f g n k zero h = refl
-map-above f g n k (suc m) h =
+map_above : (f g : ℕ → ℕ) (n k m : ℕ) → ((i : ℕ) → i < k + m → f (n + i) ≡ g (f i)) → map f (count_up (n + k) m) ≡ map g (map f (count_up k m))
+map_above f g n k zero h = refl
+map_above f g n k (suc m) h =
     let p : suc (n + k) ≡ n + suc k = omega arith in
-    ap₂ ◌∷◌ (h k (omega arith)) (ap (λ (a : ℕ). map f (countUp a m)) p ∙ map-above f g n (suc k) m (λ i l. h i (omega arith)))
+    ap₂ ◌∷◌ (h k (omega arith)) (ap (λ (a : ℕ). map f (count_up a m)) p ∙ map_above f g n (suc k) m (λ i l. h i (omega arith)))
 
 -- ---- the list after j directions
 
 abbrev sums : ℕ → List ℕ → ℕ → List ℕ
-sums b ds n = map (λ k. b ⊕ choose ds k) (countUp 0 n)
+sums b ds n = map (λ k. b ⊕ choose ds k) (count_up 0 n)
 
 module _ (b : ℕ) (ds : List ℕ) where
   sums-length : (n : ℕ) → length (sums b ds n) ≡ n
-  sums-length n = length-map (countUp 0 n) (λ k. b ⊕ choose ds k) ∙ countUp-length 0 n
+  sums-length n = length-map (count_up 0 n) (λ k. b ⊕ choose ds k) ∙ count_up-length 0 n
 
-  sums-double : (n j d : ℕ) → n ≡ 2 ^ j → j < length ds → d ≡ get_or ds j 0 → sums b ds n ++ map (λ x. x ⊕ d) (sums b ds n) ≡ sums b ds (n + n)
-  sums-double n j d p l e =
+  sums_double : (n j d : ℕ) → n ≡ 2 ^ j → j < length ds → d ≡ get_or ds j 0 → sums b ds n ++ map (λ x. x ⊕ d) (sums b ds n) ≡ sums b ds (n + n)
+  sums_double n j d p l e =
       let f : ℕ → ℕ = λ k. b ⊕ choose ds k in
       let z : n + 0 ≡ 0 + n = omega arith in
-      ap (λ (t : List ℕ). sums b ds n ++ t) (sym (map-above f (λ x. x ⊕ d) n 0 n above)) ∙ sym (map-append f (countUp 0 n) (countUp (n + 0) n))
-      ∙ ap (map f) (ap (λ (a : ℕ). countUp 0 n ++ countUp a n) z ∙ sym (countUp-add 0 n n))
+      ap (λ (t : List ℕ). sums b ds n ++ t) (sym (map_above f (λ x. x ⊕ d) n 0 n above)) ∙ sym (map-append f (count_up 0 n) (count_up (n + 0) n))
+      ∙ ap (map f) (ap (λ (a : ℕ). count_up 0 n ++ count_up a n) z ∙ sym (count_up-add 0 n n))
     where
       above : (i : ℕ) → i < 0 + n → b ⊕ choose ds (n + i) ≡ (b ⊕ choose ds i) ⊕ d
       above i h =
-          ap (λ (a : ℕ). b ⊕ choose ds (a + i)) p ∙ ap (λ (x : ℕ). b ⊕ x) (choose-above ds j i l (omega arith) ∙ ap (λ (x : ℕ). choose ds i ⊕ x) (sym e))
+          ap (λ (a : ℕ). b ⊕ choose ds (a + i)) p ∙ ap (λ (x : ℕ). b ⊕ x) (choose_above ds j i l (omega arith) ∙ ap (λ (x : ℕ). choose ds i ⊕ x) (sym e))
           ∙ sym (xor_assoc b (choose ds i) d)
 
 -- the first 2 ^ j entries are the choices of j directions, the others are as they were
@@ -134,12 +134,12 @@ listing_start b ds count old v h e =
 
 module _ {b : ℕ} {ds : List ℕ} {count : ℕ} {old out : List ℕ} {size j : ℕ} (L : Listing b ds count old out size j) where
   -- there is room for as many again
-  pub listing-room : j < count → size + size ≤ length out
-  listing-room l = omega (arith, L.size_is, L.long, L.fits, pow_mono l)
+  pub listing_room : j < count → size + size ≤ length out
+  listing_room l = omega (arith, L.size_is, L.long, L.fits, pow_mono l)
 
-  pub listing-turn : (next : List ℕ) (d : ℕ) → j < count → count ≤ length ds → d ≡ get_or ds j 0 → length next ≡ length out
+  pub listing_turn : (next : List ℕ) (d : ℕ) → j < count → count ≤ length ds → d ≡ get_or ds j 0 → length next ≡ length out
       → next ≡ paste out size (map (λ x. x ⊕ d) out) size → Listing b ds count old next (size * 2) (j + 1)
-  listing-turn next d l few e same r =
+  listing_turn next d l few e same r =
       let twice : size + size ≡ size * 2 = omega arith in
       let one : j + 1 ≡ suc j = omega arith in
       record {
@@ -148,14 +148,14 @@ module _ {b : ℕ} {ds : List ℕ} {count : ℕ} {old out : List ℕ} {size j : 
         size_is = rw one (omega (arith, L.size_is));
         long = same ∙ L.long;
         is = r ∙ ap (λ (t : List ℕ). paste t size (map (λ x. x ⊕ d) t) size) L.is
-            ∙ double-front (λ x. x ⊕ d) (sums b ds size) old size (sums-length b ds size)
-            ∙ ap (λ (t : List ℕ). t ++ drop (size + size) old) (sums-double b ds size j d L.size_is (omega arith) e)
+            ∙ double_front (λ x. x ⊕ d) (sums b ds size) old size (sums-length b ds size)
+            ∙ ap (λ (t : List ℕ). t ++ drop (size + size) old) (sums_double b ds size j d L.size_is (omega arith) e)
             ∙ ap (λ (n : ℕ). sums b ds n ++ drop n old) twice;
       }
 
-pub listing-end : (b : ℕ) (ds : List ℕ) (count : ℕ) (old out : List ℕ) (size j v : ℕ) → Listing b ds count (set old 0 v) out size j → count ≤ j
-    → out ≡ map (λ k. b ⊕ choose ds k) (countUp 0 (2 ^ count)) ++ drop (2 ^ count) old
-listing-end b ds count old out size j v L h =
+pub listing_end : (b : ℕ) (ds : List ℕ) (count : ℕ) (old out : List ℕ) (size j v : ℕ) → Listing b ds count (set old 0 v) out size j → count ≤ j
+    → out ≡ map (λ k. b ⊕ choose ds k) (count_up 0 (2 ^ count)) ++ drop (2 ^ count) old
+listing_end b ds count old out size j v L h =
     let e : j ≡ count = omega (arith, L.within) in
     L.is ∙ ap (λ (n : ℕ). sums b ds n ++ drop n (set old 0 v)) (L.size_is ∙ ap (λ (i : ℕ). 2 ^ i) e)
     ∙ ap (λ (t : List ℕ). sums b ds (2 ^ count) ++ t) (drop-set-lt (2 ^ count) old 0 v (pow_pos count))

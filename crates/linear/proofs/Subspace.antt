@@ -1,5 +1,5 @@
--- Where sums of members of K are members (`Sums`): the list of the smallest members is an echelon (`listed-echelon`) and each member is
--- one choice of it (`every-choice`); an echelon of members that has each member's highest bit is that list (`echelon-listed`).
+-- Where sums of members of K are members (`Sums`): the list of the smallest members is an echelon (`listed_echelon`) and each member is
+-- one choice of it (`every_choice`); an echelon of members that has each member's highest bit is that list (`echelon_listed`).
 -- Assumes nothing.
 use mathlib.Core.Path.{◌≡◌, sym, ap₂, ◌∙◌, subst}
 use mathlib.Core.List.{List, ◌∷◌}
@@ -11,13 +11,13 @@ use lib.ListN.{length, get_or}
 use lib.Pow.{pow_pos, pow-lt}
 use Rattle.binary.specs.Xor.{◌⊕◌, Degree}
 use Rattle.binary.specs.Bit.{bit}
-use Rattle.binary.proofs.Xor.{ac, xor-twice, xor_lt, keep-top, same-top, exp-lt, degree-unique, has-degree, equal-of-xor}
-use Rattle.binary.proofs.Bit.{lt-xor}
+use Rattle.binary.proofs.Xor.{ac, xor_twice, xor_lt, keep-top, same-top, exp_lt, degree_unique, has_degree, equal_of_xor}
+use Rattle.binary.proofs.Bit.{lt_xor}
 use Rattle.linear.specs.Directions.{choose}
-use Rattle.linear.proofs.Order.{clear-if-least}
-use Rattle.linear.proofs.Choose.{choose-zero, choose-xor, choose-pow}
-use Rattle.linear.proofs.Listed.{Smallest, Listed, done, skip, keep, listed-place, listed-entry, degree-lt}
-use Rattle.linear.proofs.Echelon.{Echelon, none, next, top-ge, tops-clear}
+use Rattle.linear.proofs.Order.{clear_if_least}
+use Rattle.linear.proofs.Choose.{choose-zero, choose-xor, choose_pow}
+use Rattle.linear.proofs.Listed.{Smallest, Listed, done, skip, keep, listed_place, listed_entry, degree_lt}
+use Rattle.linear.proofs.Echelon.{Echelon, none, next, top_ge, tops_clear}
 
 -- sums of members below 2 ^ m are members
 abbrev pub Sums : ℕ → (ℕ → Type 0) → Type 0
@@ -42,47 +42,47 @@ Least K m ds = (i u : ℕ) → i < length ds → Degree u (get_or ds i 0) → (u
 module _ {K : ℕ → Type 0} {m : ℕ} (sums : Sums m K) where
   -- ---- from the list to the echelon
 
-  smallest-clear : {t d u y : ℕ} → Smallest K t d → Smallest K u y → t < u → u < m → bit t y ≡ 0
-  smallest-clear {t} {d} {u} {y} p q h l =
+  smallest_clear : {t d u y : ℕ} → Smallest K t d → Smallest K u y → t < u → u < m → bit t y ≡ 0
+  smallest_clear {t} {d} {u} {y} p q h l =
       let w : t < m = omega arith in
-      clear-if-least t y d p.degree
-      (q.least (y ⊕ d) (sums y d (degree-lt l q.degree) (degree-lt w p.degree) q.inside p.inside) (
-        keep-top u y d q.degree.0 (degree-lt h p.degree),
+      clear_if_least t y d p.degree
+      (q.least (y ⊕ d) (sums y d (degree_lt l q.degree) (degree_lt w p.degree) q.inside p.inside) (
+        keep-top u y d q.degree.0 (degree_lt h p.degree),
         xor_lt (suc u) q.degree.1 (omega (arith, p.degree, pow-lt h)),
       ))
 
-  pub listed-echelon : {t : ℕ} {ds : List ℕ} → Listed K m t ds → Echelon t ds
-  listed-echelon r = go r (omega arith)
+  pub listed_echelon : {t : ℕ} {ds : List ℕ} → Listed K m t ds → Echelon t ds
+  listed_echelon r = go r (omega arith)
     where
       go : {t u : ℕ} {ds : List ℕ} → Listed K m u ds → t ≤ u → Echelon t ds
       go done h = none
       go (skip n r) h = go r (omega arith)
       go (keep s r) h =
-          next h s.degree (λ i l. let q = listed-place r i l in smallest-clear s q.3 q.1 q.2) (go r (omega arith))
+          next h s.degree (λ i l. let q = listed_place r i l in smallest_clear s q.3 q.1 q.2) (go r (omega arith))
 
   -- below 2 ^ n: the highest bit is an entry's, and with that entry added x is smaller
-  choice-below : {ds : List ℕ} → Listed K m 0 ds → (n x : ℕ) → n ≤ m → x < 2 ^ n → K x → Choice ds x
-  choice-below {ds} r zero x h l k = let z = choose-zero ds in (0, pow_pos (length ds), omega arith)
-  choice-below {ds} r (suc n) x h l k = go (dec_lt x (2 ^ n)) (choice-below r n)
+  choice_below : {ds : List ℕ} → Listed K m 0 ds → (n x : ℕ) → n ≤ m → x < 2 ^ n → K x → Choice ds x
+  choice_below {ds} r zero x h l k = let z = choose-zero ds in (0, pow_pos (length ds), omega arith)
+  choice_below {ds} r (suc n) x h l k = go (dec_lt x (2 ^ n)) (choice_below r n)
     where
       moved : (i : ℕ) → i < length ds → Choice ds (x ⊕ get_or ds i 0) → Choice ds x
       moved i p q = (
         q.0 ⊕ 2 ^ i,
         xor_lt (length ds) q.1 (pow-lt p),
-        sym (choose-xor ds q.0 (2 ^ i) ∙ ap₂ ◌⊕◌ (sym q.2) (choose-pow ds i p) ∙ (simp ac)),
+        sym (choose-xor ds q.0 (2 ^ i) ∙ ap₂ ◌⊕◌ (sym q.2) (choose_pow ds i p) ∙ (simp ac)),
       )
 
       go : Dec (x < 2 ^ n) → ((y : ℕ) → n ≤ m → y < 2 ^ n → K y → Choice ds y) → Choice ds x
       go (yes w) ih = ih x (omega arith) w k
       go (no w) ih =
-          let e = listed-entry r x n k (omega arith, l) (omega arith) h in
+          let e = listed_entry r x n k (omega arith, l) (omega arith) h in
           let d = e.2.degree in
           moved e.0 e.1
           (ih _ (omega arith) (same-top n x _ (omega arith, l) d)
-          (sums x _ (degree-lt h (omega arith, l)) (degree-lt h d) k e.2.inside))
+          (sums x _ (degree_lt h (omega arith, l)) (degree_lt h d) k e.2.inside))
 
-  pub every-choice : {ds : List ℕ} → Listed K m 0 ds → (x : ℕ) → x < 2 ^ m → K x → Choice ds x
-  every-choice r x = choice-below r m x (le_refl m)
+  pub every_choice : {ds : List ℕ} → Listed K m 0 ds → (x : ℕ) → x < 2 ^ m → K x → Choice ds x
+  every_choice r x = choice_below r m x (le_refl m)
 
   -- ---- from the echelon to the list
 
@@ -99,11 +99,11 @@ module _ {K : ℕ → Type 0} {m : ℕ} (sums : Sums m K) where
       skips (keep p.1 (listed_by r p.0 (λ i s j g. a (suc i) s (omega arith) g) (λ x s k g j w. later s j (c x s k g (omega arith) w))))
       (u - t) t (omega arith)
       (λ x s k g j w. let q = c x s k g j (omega (arith, p.0)) in
-      omega (arith, top-ge (next {t = u} (omega arith) d z r) q.0 s q.1 q.2))
+      omega (arith, top_ge (next {t = u} (omega arith) d z r) q.0 s q.1 q.2))
     where
       later : (s : ℕ) → u < s → (i : ℕ) × (i < suc (length ds)) × Degree s (get_or (v ∷ ds) i 0)
           → (i : ℕ) × (i < length ds) × Degree s (get_or ds i 0)
-      later s j (zero, p, q) = absurd (omega (arith, degree-unique s u v q d))
+      later s j (zero, p, q) = absurd (omega (arith, degree_unique s u v q d))
       later s j (suc i, p, q) = (i, omega arith, q)
 
   module _ {ds : List ℕ} (e : Echelon 0 ds) (c : Covers K m 0 ds) (i u : ℕ) (l : i < length ds) (d : Degree u (get_or ds i 0)) (w : u < m)
@@ -111,24 +111,24 @@ module _ {K : ℕ → Type 0} {m : ℕ} (sums : Sums m K) where
     -- a member with the same highest bit differs from the entry at the highest bit s of another, which is clear in the entry
     differs : (x s j : ℕ) → Degree s (get_or ds i 0 ⊕ x) → s < u → j < length ds → Degree s (get_or ds j 0) → get_or ds i 0 < x
     differs x s j p h q g =
-        let z = tops-clear e j i s q l (λ (f : i ≡ j). omega (arith, degree-unique s u (get_or ds i 0) (rw f g) d)) g in
-        rw xor-twice at (lt-xor s (get_or ds i 0) (get_or ds i 0 ⊕ x) p z)
+        let z = tops_clear e j i s q l (λ (f : i ≡ j). omega (arith, degree_unique s u (get_or ds i 0) (rw f g) d)) g in
+        rw xor_twice at (lt_xor s (get_or ds i 0) (get_or ds i 0 ⊕ x) p z)
 
-    entry-least : (x : ℕ) → K x → Degree u x → get_or ds i 0 ≤ x
-    entry-least x n g = go (ℕ_discrete (get_or ds i 0 ⊕ x) 0)
+    entry_least : (x : ℕ) → K x → Degree u x → get_or ds i 0 ≤ x
+    entry_least x n g = go (ℕ_discrete (get_or ds i 0 ⊕ x) 0)
       where
         go : Dec (get_or ds i 0 ⊕ x ≡ 0) → get_or ds i 0 ≤ x
-        go (yes z) = omega (arith, equal-of-xor (get_or ds i 0) x z)
+        go (yes z) = omega (arith, equal_of_xor (get_or ds i 0) x z)
         go (no z) =
-            let p = has-degree (get_or ds i 0 ⊕ x) z in
-            let h = exp-lt p.0 u (get_or ds i 0 ⊕ x) p.1.0 (same-top u (get_or ds i 0) x d g) in
-            let q = c (get_or ds i 0 ⊕ x) p.0 (sums (get_or ds i 0) x (degree-lt w d) (degree-lt w g) k n) p.1 (omega arith) (omega arith) in
+            let p = has_degree (get_or ds i 0 ⊕ x) z in
+            let h = exp_lt p.0 u (get_or ds i 0 ⊕ x) p.1.0 (same-top u (get_or ds i 0) x d g) in
+            let q = c (get_or ds i 0 ⊕ x) p.0 (sums (get_or ds i 0) x (degree_lt w d) (degree_lt w g) k n) p.1 (omega arith) (omega arith) in
             omega (arith, differs x p.0 q.0 p.1 h q.1 q.2)
 
-  pub echelon-listed : {ds : List ℕ} → Echelon 0 ds → Entries K m ds → Covers K m 0 ds → Listed K m 0 ds
-  echelon-listed {ds} e h c = listed_by e (omega arith) least c
+  pub echelon_listed : {ds : List ℕ} → Echelon 0 ds → Entries K m ds → Covers K m 0 ds → Listed K m 0 ds
+  echelon_listed {ds} e h c = listed_by e (omega arith) least c
     where
       least : Least K m ds
       least i u l d =
           let p = h i u l d in
-          (p.0, record { inside = p.1; degree = d; least = entry-least e c i u l d p.0 p.1 })
+          (p.0, record { inside = p.1; degree = d; least = entry_least e c i u l d p.0 p.1 })

@@ -27,16 +27,16 @@ pivot m k s = first (λ i. candidate m k (mark s i) (row s i)) (length s.rows)
 unfoldable pub clear : ℕ → ℕ → List ℕ → List ℕ
 clear k p l = let pivot = get_or l p 0 in set (map (λ row. row ⊕ bit k row * pivot) l) p pivot
 
-unfoldable pub use-row : ℕ → ℕ → Reduced → Reduced
-use-row k p s = record { rows = clear k p s.rows; marks = set s.marks p k }
+unfoldable pub use_row : ℕ → ℕ → Reduced → Reduced
+use_row k p s = record { rows = clear k p s.rows; marks = set s.marks p k }
 
-unfoldable pub step-at : ℕ → ℕ → Reduced → Bool → Reduced
-step-at k p s true = use-row k p s
-step-at k p s false = s
+unfoldable pub step_at : ℕ → ℕ → Reduced → Bool → Reduced
+step_at k p s true = use_row k p s
+step_at k p s false = s
 
 -- one column
 unfoldable pub step : ℕ → ℕ → Reduced → Reduced
-step m k s = let p = pivot m k s in step-at k p s (ltb p (length s.rows))
+step m k s = let p = pivot m k s in step_at k p s (ltb p (length s.rows))
 
 -- no row used
 unfoldable pub start : ℕ → List ℕ → Reduced

@@ -1,6 +1,6 @@
 -- A system given by its columns: "one row for each power in the result" (01). Assumes nothing.
 use Rattle.std.specs.Prelude.{List, map, ℕ, zero, suc, ◌*◌, ◌^◌, get_or}
-use Rattle.algebra.specs.Lists.{countUp}
+use Rattle.algebra.specs.Lists.{count_up}
 use Rattle.binary.specs.Xor.{◌⊕◌}
 use Rattle.binary.specs.Bit.{bit}
 use Rattle.linear.specs.Limits.{places}
@@ -15,8 +15,8 @@ unfoldable pub row_of : ℕ → (ℕ → ℕ) → ℕ → ℕ → ℕ
 row_of m f c i = across f i m ⊕ bit i c * 2 ^ m
 
 unfoldable pub rows_of : ℕ → (ℕ → ℕ) → ℕ → List ℕ
-rows_of m f c = map (row_of m f c) (countUp 0 places)
+rows_of m f c = map (row_of m f c) (count_up 0 places)
 
 -- the rows with one more column, at bit j
-unfoldable pub withColumn : ℕ → ℕ → List ℕ → List ℕ
-withColumn j column rows = map (λ i. get_or rows i 0 ⊕ bit i column * 2 ^ j) (countUp 0 places)
+unfoldable pub with_column : ℕ → ℕ → List ℕ → List ℕ
+with_column j column rows = map (λ i. get_or rows i 0 ⊕ bit i column * 2 ^ j) (count_up 0 places)

@@ -6,12 +6,12 @@ use Rattle.binary.specs.Xor.{◌⊕◌}
 use Rattle.binary.specs.Bit.{bit}
 use Rattle.binary.specs.Fold.{fold}
 
-unfoldable pub parityStep : ℕ → ℕ → ℕ
-parityStep x r = x % 2 ⊕ r
+unfoldable pub parity_step : ℕ → ℕ → ℕ
+parity_step x r = x % 2 ⊕ r
 
 -- the parity of the number of bits
 unfoldable pub parity : ℕ → ℕ
-parity a = fold parityStep a
+parity a = fold parity_step a
 
 -- the parity of the bits that a row and v share
 unfoldable pub dot : ℕ → ℕ → ℕ

@@ -1,24 +1,24 @@
--- E1: the roots of an equation that needs no change of the unknown: a constant (`constant-roots`), degree 1 (`linear-roots`), and one that
--- is affine as it stands (`affine-roots`). Assumes nothing.
+-- E1: the roots of an equation that needs no change of the unknown: a constant (`constant_roots`), degree 1 (`linear_roots`), and one that
+-- is affine as it stands (`affine_roots`). Assumes nothing.
 use mathlib.Core.Path.{◌≡◌, refl, sym, ap, ◌∙◌, subst}
 use mathlib.Core.Logic.{◌≢◌, ◌⊎◌, inl, inr}
 use mathlib.Core.List.{List, [], ◌∷◌}
 use Prim.Native.Nat.{ℕ, suc, ◌<◌}
 use native.Mathlib.Omega.{arith}
 use lib.ListN.{length}
-use Rattle.algebra.proofs.Ascending.{ascending-nodup}
+use Rattle.algebra.proofs.Ascending.{ascending_nodup}
 use Rattle.binary.specs.Xor.{◌⊕◌}
-use Rattle.binary.proofs.Xor.{xor-zero, xor_self, equal-of-xor}
+use Rattle.binary.proofs.Xor.{xor-zero, xor_self, equal_of_xor}
 use Rattle.binary.specs.Product.{product}
 use Rattle.binary.proofs.Product.{product-zero}
 use Rattle.galois.specs.Field.{Field}
 use Rattle.galois.specs.Polynomial.{value, Root}
-use Rattle.galois.specs.Roots.{rootsOf}
-use Rattle.galois.proofs.Padding.{value-pad}
-use Rattle.galois.proofs.RootList.{roots-iff, roots-ascending}
+use Rattle.galois.specs.Roots.{roots_of}
+use Rattle.galois.proofs.Padding.{value_pad}
+use Rattle.galois.proofs.RootList.{roots_iff, roots_ascending}
 use Rattle.arithmetic.specs.Quotient.{quotient_of}
-use Rattle.arithmetic.proofs.Quotient.{quotient_is, quotient-product, quotient-lt}
-use Rattle.roots.specs.Limits.{mostRoots}
+use Rattle.arithmetic.proofs.Quotient.{quotient_is, quotient-product, quotient_lt}
+use Rattle.roots.specs.Limits.{most_roots}
 use Rattle.roots.specs.Equation.{Ready, HoldsRoots}
 use Rattle.roots.specs.Unsorted.{Holds, AreRoots}
 use Rattle.roots.specs.declared.inner.unsorted.Unsorted.{Unsorted}
@@ -27,40 +27,40 @@ pub positive : (n : ℕ) → n ≢ 0 → 0 < n
 positive n h = omega arith
 
 -- of an equation written in another way
-pub ready-as : (m p : ℕ) (f g : List ℕ) → f ≡ g → Ready m p f → Ready m p g
-ready-as m p f g e R = subst (Ready m p) e R
+pub ready_as : (m p : ℕ) (f g : List ℕ) → f ≡ g → Ready m p f → Ready m p g
+ready_as m p f g e R = subst (Ready m p) e R
 
-pub roots-as : (m p : ℕ) (f g : List ℕ) (u : Unsorted) → f ≡ g → AreRoots m p g u → AreRoots m p f u
-roots-as m p f g u e A = subst (λ (l : List ℕ). AreRoots m p l u) (sym e) A
+pub roots_as : (m p : ℕ) (f g : List ℕ) (u : Unsorted) → f ≡ g → AreRoots m p g u → AreRoots m p f u
+roots_as m p f g u e A = subst (λ (l : List ℕ). AreRoots m p l u) (sym e) A
 
 -- an equation that is affine as it stands
-pub affine-roots : (m p : ℕ) (f : List ℕ) (u : Unsorted) → Holds (rootsOf m p f) u → AreRoots m p f u
-affine-roots m p f u H =
-    (subst (HoldsRoots m p f) (sym H.0) (record { are = roots-iff m p f; once = ascending-nodup (rootsOf m p f) (roots-ascending m p f) }), H.1)
+pub affine_roots : (m p : ℕ) (f : List ℕ) (u : Unsorted) → Holds (roots_of m p f) u → AreRoots m p f u
+affine_roots m p f u H =
+    (subst (HoldsRoots m p f) (sym H.0) (record { are = roots_iff m p f; once = ascending_nodup (roots_of m p f) (roots_ascending m p f) }), H.1)
 
-value-one : (p c0 x : ℕ) → value p (c0 ∷ []) x ≡ c0
+value_one : (p c0 x : ℕ) → value p (c0 ∷ []) x ≡ c0
 unfolding value
-value-one p c0 x = ap (λ (v : ℕ). c0 ⊕ v) (product-zero p x) ∙ xor-zero c0
+value_one p c0 x = ap (λ (v : ℕ). c0 ⊕ v) (product-zero p x) ∙ xor-zero c0
 
 -- a constant that is not 0 has no root
-pub constant-roots : (m p c0 : ℕ) (list : List ℕ) → Ready m p (c0 ∷ 0 ∷ 0 ∷ 0 ∷ 0 ∷ []) → length list ≡ mostRoots
+pub constant_roots : (m p c0 : ℕ) (list : List ℕ) → Ready m p (c0 ∷ 0 ∷ 0 ∷ 0 ∷ 0 ∷ []) → length list ≡ most_roots
     → AreRoots m p (c0 ∷ 0 ∷ 0 ∷ 0 ∷ 0 ∷ []) (record { count = 0; list = list })
-constant-roots m p c0 list R l = (
+constant_roots m p c0 list R l = (
   record { are = λ x. (λ k. absurd k, λ k. R.nonzero (zero x k, (refl, (refl, (refl, (refl, tt)))))); once = tt },
   record { few = omega arith; long = l },
 )
   where
     zero : (x : ℕ) → Root m p (c0 ∷ 0 ∷ 0 ∷ 0 ∷ 0 ∷ []) x → c0 ≡ 0
-    zero x k = sym (value-pad p (c0 ∷ []) 4 x ∙ value-one p c0 x) ∙ k.1
+    zero x k = sym (value_pad p (c0 ∷ []) 4 x ∙ value_one p c0 x) ∙ k.1
 
 -- c0 + c1·x is 0 at c0/c1 alone
-value-two : (p c0 c1 x : ℕ) → value p (c0 ∷ c1 ∷ []) x ≡ c0 ⊕ product p x c1
+value_two : (p c0 c1 x : ℕ) → value p (c0 ∷ c1 ∷ []) x ≡ c0 ⊕ product p x c1
 unfolding value
-value-two p c0 c1 x = ap (λ (v : ℕ). c0 ⊕ product p x v) (value-one p c1 x)
+value_two p c0 c1 x = ap (λ (v : ℕ). c0 ⊕ product p x v) (value_one p c1 x)
 
-pub linear-roots : (m p c0 c1 q : ℕ) (list : List ℕ) → Ready m p (c0 ∷ c1 ∷ 0 ∷ 0 ∷ 0 ∷ []) → c1 ≢ 0 → q ≡ quotient_of m p c0 c1
-    → suc (length list) ≡ mostRoots → AreRoots m p (c0 ∷ c1 ∷ 0 ∷ 0 ∷ 0 ∷ []) (record { count = 1; list = q ∷ list })
-linear-roots m p c0 c1 q list R n e l = (
+pub linear_roots : (m p c0 c1 q : ℕ) (list : List ℕ) → Ready m p (c0 ∷ c1 ∷ 0 ∷ 0 ∷ 0 ∷ []) → c1 ≢ 0 → q ≡ quotient_of m p c0 c1
+    → suc (length list) ≡ most_roots → AreRoots m p (c0 ∷ c1 ∷ 0 ∷ 0 ∷ 0 ∷ []) (record { count = 1; list = q ∷ list })
+linear_roots m p c0 c1 q list R n e l = (
   record { are = λ x. (root x, λ k. inl (only x k)); once = (λ k. k, tt) },
   record { few = omega arith; long = l },
 )
@@ -69,15 +69,15 @@ linear-roots m p c0 c1 q list R n e l = (
     F = R.field.field
 
     at : (x : ℕ) → value p (c0 ∷ c1 ∷ 0 ∷ 0 ∷ 0 ∷ []) x ≡ c0 ⊕ product p x c1
-    at x = value-pad p (c0 ∷ c1 ∷ []) 3 x ∙ value-two p c0 c1 x
+    at x = value_pad p (c0 ∷ c1 ∷ []) 3 x ∙ value_two p c0 c1 x
 
     only : (x : ℕ) → Root m p (c0 ∷ c1 ∷ 0 ∷ 0 ∷ 0 ∷ []) x → x ≡ q
     only x k =
-        quotient_is m p F c0 c1 x (positive c1 n) R.small.1.0 k.0 (sym (equal-of-xor c0 (product p x c1) (sym (at x) ∙ k.1))) ∙ sym e
+        quotient_is m p F c0 c1 x (positive c1 n) R.small.1.0 k.0 (sym (equal_of_xor c0 (product p x c1) (sym (at x) ∙ k.1))) ∙ sym e
 
     root : (x : ℕ) → (x ≡ q) ⊎ ⊥ → Root m p (c0 ∷ c1 ∷ 0 ∷ 0 ∷ 0 ∷ []) x
     root x (inl k) = (
-      rw (k, e) (quotient-lt m p F c0 c1 R.small.0 (positive c1 n) R.small.1.0),
+      rw (k, e) (quotient_lt m p F c0 c1 R.small.0 (positive c1 n) R.small.1.0),
       at x ∙ ap (λ (v : ℕ). c0 ⊕ product p v c1) (k ∙ e)
           ∙ ap (λ (v : ℕ). c0 ⊕ v) (quotient-product m p F c0 c1 R.small.0 (positive c1 n) R.small.1.0) ∙ xor_self c0,
     )

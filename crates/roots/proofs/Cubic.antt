@@ -1,5 +1,5 @@
 -- E2: with t = c2/c3 the roots of a cubic are z + t for the roots z of c3·z⁴ + (c1 + c2·t)·z² + (c0 + c1·t)·z, all of them where c0 + c1·t is
--- 0, and all but the first, which is 0, where it is not (`kept-roots`, `all-roots`). Assumes nothing.
+-- 0, and all but the first, which is 0, where it is not (`kept_roots`, `all_roots_lem`). Assumes nothing.
 use mathlib.Core.Path.{◌≡◌, refl, sym, ap, ap₂, ◌∙◌, subst}
 use mathlib.Core.Logic.{◌≢◌, ◌↔◌, ◌⊎◌, inl, inr}
 use mathlib.Core.List.{List, [], ◌∷◌, map}
@@ -12,24 +12,24 @@ use lib.Seq.{length-take-le}
 use lib.Pow.{pow_pos}
 use Rattle.algebra.specs.Expression.{var, O, ◌⊕◌ as ◌∔◌, ◌⊗◌}
 use Rattle.algebra.specs.Lists.{Member, Nodup, Ascending}
-use Rattle.algebra.proofs.Identity.{ring-on-given, alone, using-eq}
-use Rattle.algebra.proofs.Ascending.{ascending-nodup}
-use Rattle.algebra.proofs.Onto.{of_map, to_map, map-nodup}
+use Rattle.algebra.proofs.Identity.{ring_on_given, alone, using_eq}
+use Rattle.algebra.proofs.Ascending.{ascending_nodup}
+use Rattle.algebra.proofs.Onto.{of_map, to_map, map_nodup}
 use Rattle.binary.specs.Xor.{◌⊕◌}
-use Rattle.binary.proofs.Xor.{ac, is-xor, zero_xor, xor_lt}
+use Rattle.binary.proofs.Xor.{ac, is_xor, zero_xor, xor_lt}
 use Rattle.binary.specs.Product.{product}
 use Rattle.binary.proofs.Product.{product-zero}
-use Rattle.binary.proofs.Inverse.{no-zero-divisors}
+use Rattle.binary.proofs.Inverse.{no_zero_divisors}
 use Rattle.galois.specs.Field.{Field}
 use Rattle.galois.specs.Polynomial.{value, Root}
-use Rattle.galois.specs.Roots.{rootsOf}
+use Rattle.galois.specs.Roots.{roots_of}
 use Rattle.galois.proofs.Field.{ring}
-use Rattle.galois.proofs.Power.{zero-product, mul-lt}
-use Rattle.galois.proofs.Polynomial.{value-lt}
-use Rattle.galois.proofs.RootList.{roots-iff, roots-ascending}
+use Rattle.galois.proofs.Power.{zero-product, mul_lt}
+use Rattle.galois.proofs.Polynomial.{value_lt}
+use Rattle.galois.proofs.RootList.{roots_iff, roots_ascending}
 use Rattle.arithmetic.specs.Quotient.{quotient_of}
-use Rattle.arithmetic.proofs.Quotient.{quotient-product, quotient-lt}
-use Rattle.roots.specs.Equation.{Ready, HoldsRoots, quarticOf}
+use Rattle.arithmetic.proofs.Quotient.{quotient-product, quotient_lt}
+use Rattle.roots.specs.Equation.{Ready, HoldsRoots, quartic_of}
 use Rattle.roots.specs.Unsorted.{entries, Fits, Holds, AreRoots}
 use Rattle.roots.specs.declared.inner.unsorted.Unsorted.{Unsorted}
 use Rattle.roots.proofs.Completing.{positive}
@@ -62,47 +62,47 @@ module _ (m p c0 c1 c2 c3 : ℕ) (R : Ready m p (c0 ∷ c1 ∷ c2 ∷ c3 ∷ 0 �
   abbrev t : ℕ
   t = quotient_of m p c2 c3
 
-  t-lt : t < 2 ^ m
-  t-lt = quotient-lt m p F c2 c3 h2 (positive c3 n) h3
+  t_lt : t < 2 ^ m
+  t_lt = quotient_lt m p F c2 c3 h2 (positive c3 n) h3
 
-  t-product : product p t c3 ≡ c2
-  t-product = quotient-product m p F c2 c3 h2 (positive c3 n) h3
+  t_product : product p t c3 ≡ c2
+  t_product = quotient-product m p F c2 c3 h2 (positive c3 n) h3
 
-  pub t-small : (q : ℕ) → q ≡ t → q < 2 ^ m
-  t-small q e = rw e t-lt
+  pub t_small : (q : ℕ) → q ≡ t → q < 2 ^ m
+  t_small q e = rw e t_lt
 
   -- the value at t
   abbrev l0 : ℕ
   l0 = c0 ⊕ product p c1 t
 
-  at-t : value p f t ≡ l0
+  at_t : value p f t ≡ l0
   unfolding value
-  at-t =
-      ring-on-given (ring m p F) ((c0, h0) ∷ (c1, h1) ∷ (c2, h2) ∷ (c3, h3) ∷ (t, t-lt) ∷ [])
+  at_t =
+      ring_on_given (ring m p F) ((c0, h0) ∷ (c1, h1) ∷ (c2, h2) ∷ (c3, h3) ∷ (t, t_lt) ∷ [])
       (var 0 ∔ var 4 ⊗ (var 1 ∔ var 4 ⊗ (var 2 ∔ var 4 ⊗ (var 3 ∔ var 4 ⊗ (O ∔ var 4 ⊗ O)))))
       (var 0 ∔ var 1 ⊗ var 4)
-      (using-eq (var 4 ⊗ var 4) (var 4 ⊗ var 3) (var 2) t-product alone)
+      (using_eq (var 4 ⊗ var 4) (var 4 ⊗ var 3) (var 2) t_product alone)
       refl
 
   -- the equation for z
   abbrev g : List ℕ
-  g = quarticOf 0 l0 (c1 ⊕ product p c2 t) c3
+  g = quartic_of 0 l0 (c1 ⊕ product p c2 t) c3
 
-  cubic-product : (z : ℕ) → z < 2 ^ m → value p g z ≡ product p z (value p f (z ⊕ t))
+  cubic_product : (z : ℕ) → z < 2 ^ m → value p g z ≡ product p z (value p f (z ⊕ t))
   unfolding value
-  cubic-product z hz =
-      ring-on-given (ring m p F) ((c0, h0) ∷ (c1, h1) ∷ (c2, h2) ∷ (c3, h3) ∷ (t, t-lt) ∷ (z, hz) ∷ [])
+  cubic_product z hz =
+      ring_on_given (ring m p F) ((c0, h0) ∷ (c1, h1) ∷ (c2, h2) ∷ (c3, h3) ∷ (t, t_lt) ∷ (z, hz) ∷ [])
       (O ∔ var 5 ⊗ (var 0 ∔ var 1 ⊗ var 4 ∔ var 5 ⊗ (var 1 ∔ var 2 ⊗ var 4 ∔ var 5 ⊗ (O ∔ var 5 ⊗ (var 3 ∔ var 5 ⊗ O)))))
       (var 5 ⊗ (var 0 ∔ (var 5 ∔ var 4) ⊗ (var 1 ∔ (var 5 ∔ var 4) ⊗ (var 2 ∔ (var 5 ∔ var 4) ⊗ (var 3 ∔ (var 5 ∔ var 4) ⊗ (O ∔ (var 5 ∔ var 4) ⊗ O))))))
-      (using-eq (var 5 ⊗ (var 5 ⊗ var 5 ∔ var 5 ⊗ var 4 ∔ var 4 ⊗ var 4)) (var 4 ⊗ var 3) (var 2) t-product alone)
+      (using_eq (var 5 ⊗ (var 5 ⊗ var 5 ∔ var 5 ⊗ var 4 ∔ var 4 ⊗ var 4)) (var 4 ⊗ var 3) (var 2) t_product alone)
       refl
 
-  cubic-ready : Ready m p g
-  cubic-ready =
+  cubic_ready : Ready m p g
+  cubic_ready =
       record {
         field = R.field;
         largest = R.largest;
-        small = (pow_pos m, (xor_lt m h0 (mul-lt m p F c1 t), (xor_lt m h1 (mul-lt m p F c2 t), (pow_pos m, (h3, tt)))));
+        small = (pow_pos m, (xor_lt m h0 (mul_lt m p F c1 t), (xor_lt m h1 (mul_lt m p F c2 t), (pow_pos m, (h3, tt)))));
         nonzero = λ z. n z.1.1.1.1.0;
       }
 
@@ -110,57 +110,57 @@ module _ (m p c0 c1 c2 c3 : ℕ) (R : Ready m p (c0 ∷ c1 ∷ c2 ∷ c3 ∷ 0 �
   twice z = simp ac
 
   -- z + t is a root of the cubic: then z is one of the equation for z
-  to-z : (z : ℕ) → Root m p f (z ⊕ t) → Root m p g z
-  to-z z k =
-      let hz : z < 2 ^ m = subst (λ (v : ℕ). v < 2 ^ m) (twice z) (xor_lt m k.0 t-lt) in
-      (hz, cubic-product z hz ∙ ap (product p z) k.1 ∙ product-zero p z)
+  to_z : (z : ℕ) → Root m p f (z ⊕ t) → Root m p g z
+  to_z z k =
+      let hz : z < 2 ^ m = subst (λ (v : ℕ). v < 2 ^ m) (twice z) (xor_lt m k.0 t_lt) in
+      (hz, cubic_product z hz ∙ ap (product p z) k.1 ∙ product-zero p z)
 
   -- and where z is not 0, the other way about
-  of-z : (z : ℕ) → z ≢ 0 → Root m p g z → Root m p f (z ⊕ t)
-  of-z z h k =
-      let hx = xor_lt m k.0 t-lt in
-      (hx, no-zero-divisors m p F.irr z (value p f (z ⊕ t)) h k.0 (value-lt m p F f (z ⊕ t) R.small) (sym (cubic-product z k.0) ∙ k.1))
+  of_z : (z : ℕ) → z ≢ 0 → Root m p g z → Root m p f (z ⊕ t)
+  of_z z h k =
+      let hx = xor_lt m k.0 t_lt in
+      (hx, no_zero_divisors m p F.irr z (value p f (z ⊕ t)) h k.0 (value_lt m p F f (z ⊕ t) R.small) (sym (cubic_product z k.0) ∙ k.1))
 
   at_zero : (z : ℕ) → z ≡ 0 → value p f (z ⊕ t) ≡ l0
-  at_zero z e = ap (value p f) (ap (λ (v : ℕ). v ⊕ t) e ∙ zero_xor t) ∙ at-t
+  at_zero z e = ap (value p f) (ap (λ (v : ℕ). v ⊕ t) e ∙ zero_xor t) ∙ at_t
 
   -- the numbers z for which z + t is a root
   module _ (zs : List ℕ) (once : Nodup zs) (are : (z : ℕ) → Member z zs ↔ Root m p f (z ⊕ t)) where
-    moved-roots : HoldsRoots m p f (map (λ z. z ⊕ t) zs)
-    moved-roots =
+    moved_roots : HoldsRoots m p f (map (λ z. z ⊕ t) zs)
+    moved_roots =
         record {
           are = λ x. (
             λ k. let r = of_map (λ z. z ⊕ t) zs x k in subst (Root m p f) (sym r.2) ((are r.0).0 r.1),
             λ k. subst (λ (v : ℕ). Member v (map (λ z. z ⊕ t) zs)) (twice x)
                 (to_map (λ z. z ⊕ t) zs (x ⊕ t) ((are (x ⊕ t)).1 (subst (Root m p f) (sym (twice x)) k))),
           );
-          once = map-nodup (λ z. z ⊕ t) zs once (λ x y hx hy e. sym (twice x) ∙ ap (λ (v : ℕ). v ⊕ t) e ∙ twice y);
+          once = map_nodup (λ z. z ⊕ t) zs once (λ x y hx hy e. sym (twice x) ∙ ap (λ (v : ℕ). v ⊕ t) e ∙ twice y);
         }
 
   abbrev zs : List ℕ
-  zs = rootsOf m p g
+  zs = roots_of m p g
 
-  zs-once : Nodup zs
-  zs-once = ascending-nodup zs (roots-ascending m p g)
+  zs_once : Nodup zs
+  zs_once = ascending_nodup zs (roots_ascending m p g)
 
   all_are : l0 ≡ 0 → (z : ℕ) → Member z zs ↔ Root m p f (z ⊕ t)
-  all_are e z = (λ k. go (ℕ_discrete z 0) ((roots-iff m p g z).0 k), λ k. (roots-iff m p g z).1 (to-z z k))
+  all_are e z = (λ k. go (ℕ_discrete z 0) ((roots_iff m p g z).0 k), λ k. (roots_iff m p g z).1 (to_z z k))
     where
       go : Dec (z ≡ 0) → Root m p g z → Root m p f (z ⊕ t)
-      go (yes q) k = (xor_lt m k.0 t-lt, at_zero z q ∙ e)
-      go (no q) k = of-z z q k
+      go (yes q) k = (xor_lt m k.0 t_lt, at_zero z q ∙ e)
+      go (no q) k = of_z z q k
 
-  first-is : zs ≡ 0 ∷ drop 1 zs
+  first_is : zs ≡ 0 ∷ drop 1 zs
   unfolding value
-  first-is = zero-first zs (roots-ascending m p g) ((roots-iff m p g 0).1 (pow_pos m, ap (λ (v : ℕ). 0 ⊕ v) (zero-product p _) ∙ zero_xor 0))
+  first_is = zero-first zs (roots_ascending m p g) ((roots_iff m p g 0).1 (pow_pos m, ap (λ (v : ℕ). 0 ⊕ v) (zero-product p _) ∙ zero_xor 0))
 
-  rest-once : (Member 0 (drop 1 zs) → ⊥) × Nodup (drop 1 zs)
-  rest-once = subst Nodup first-is zs-once
+  rest_once : (Member 0 (drop 1 zs) → ⊥) × Nodup (drop 1 zs)
+  rest_once = subst Nodup first_is zs_once
 
-  kept-are : l0 ≢ 0 → (z : ℕ) → Member z (drop 1 zs) ↔ Root m p f (z ⊕ t)
-  kept-are h z = (
-    λ k. of-z z (λ e. rest-once.0 (subst (λ (v : ℕ). Member v (drop 1 zs)) e k)) ((roots-iff m p g z).0 (subst (Member z) (sym first-is) (inr k))),
-    λ k. go k (subst (Member z) first-is ((roots-iff m p g z).1 (to-z z k))),
+  kept_are : l0 ≢ 0 → (z : ℕ) → Member z (drop 1 zs) ↔ Root m p f (z ⊕ t)
+  kept_are h z = (
+    λ k. of_z z (λ e. rest_once.0 (subst (λ (v : ℕ). Member v (drop 1 zs)) e k)) ((roots_iff m p g z).0 (subst (Member z) (sym first_is) (inr k))),
+    λ k. go k (subst (Member z) first_is ((roots_iff m p g z).1 (to_z z k))),
   )
     where
       go : Root m p f (z ⊕ t) → (z ≡ 0) ⊎ Member z (drop 1 zs) → Member z (drop 1 zs)
@@ -170,36 +170,36 @@ module _ (m p c0 c1 c2 c3 : ℕ) (R : Ready m p (c0 ∷ c1 ∷ c2 ∷ c3 ∷ 0 �
   -- by the numbers that the code makes
   module _ (q a b : ℕ) (eq : q ≡ t) (ea : a ≡ product p c1 q) (eb : b ≡ product p c2 q) where
     abbrev h : List ℕ
-    h = quarticOf 0 (bit_xor c0 a) (bit_xor c1 b) c3
+    h = quartic_of 0 (bit_xor c0 a) (bit_xor c1 b) c3
 
-    l0-is : bit_xor c0 a ≡ l0
-    l0-is = sym (is-xor c0 a) ∙ ap (λ (v : ℕ). c0 ⊕ v) (ea ∙ ap (product p c1) eq)
+    l0_is : bit_xor c0 a ≡ l0
+    l0_is = sym (is_xor c0 a) ∙ ap (λ (v : ℕ). c0 ⊕ v) (ea ∙ ap (product p c1) eq)
 
     made : h ≡ g
-    made = ap₂ (λ (u v : ℕ). quarticOf 0 u v c3) l0-is (sym (is-xor c1 b) ∙ ap (λ (v : ℕ). c1 ⊕ v) (eb ∙ ap (product p c2) eq))
+    made = ap₂ (λ (u v : ℕ). quartic_of 0 u v c3) l0_is (sym (is_xor c1 b) ∙ ap (λ (v : ℕ). c1 ⊕ v) (eb ∙ ap (product p c2) eq))
 
-    pub made-ready : Ready m p h
-    made-ready = subst (Ready m p) (sym made) cubic-ready
+    pub made_ready : Ready m p h
+    made_ready = subst (Ready m p) (sym made) cubic_ready
 
-    module _ (u : Unsorted) (H : Holds (rootsOf m p h) u) where
-      u-is : entries u ≡ zs
-      u-is = H.0 ∙ ap (rootsOf m p) made
+    module _ (u : Unsorted) (H : Holds (roots_of m p h) u) where
+      u_is : entries u ≡ zs
+      u_is = H.0 ∙ ap (roots_of m p) made
 
-      pub made-first : Fits u × (0 < u.count)
-      made-first =
-          let e = ap length (u-is ∙ first-is) in
+      pub made_first : Fits u × (0 < u.count)
+      made_first =
+          let e = ap length (u_is ∙ first_is) in
           let k = length-take-le u.count u.list (omega (arith, H.1.few, H.1.long)) in
           (H.1, omega arith)
 
-      pub all-roots : bit_xor c0 a ≡ 0 → (r : Unsorted) → Holds (map (λ z. z ⊕ q) (entries u)) r → AreRoots m p f r
-      all-roots e r W = (
-        subst (HoldsRoots m p f) (sym (W.0 ∙ ap₂ (λ (v : ℕ) (l : List ℕ). map (λ z. z ⊕ v) l) eq u-is)) (moved-roots zs zs-once (all_are (sym l0-is ∙ e))),
+      pub all_roots_lem : bit_xor c0 a ≡ 0 → (r : Unsorted) → Holds (map (λ z. z ⊕ q) (entries u)) r → AreRoots m p f r
+      all_roots_lem e r W = (
+        subst (HoldsRoots m p f) (sym (W.0 ∙ ap₂ (λ (v : ℕ) (l : List ℕ). map (λ z. z ⊕ v) l) eq u_is)) (moved_roots zs zs_once (all_are (sym l0_is ∙ e))),
         W.1,
       )
 
-      pub kept-roots : bit_xor c0 a ≢ 0 → (k r : Unsorted) → Holds (drop 1 (entries u)) k → Holds (map (λ z. z ⊕ q) (entries k)) r → AreRoots m p f r
-      kept-roots e k r K W = (
-        subst (HoldsRoots m p f) (sym (W.0 ∙ ap₂ (λ (v : ℕ) (l : List ℕ). map (λ z. z ⊕ v) l) eq (K.0 ∙ ap (drop 1) u-is)))
-            (moved-roots (drop 1 zs) rest-once.1 (kept-are (λ z. e (l0-is ∙ z)))),
+      pub kept_roots : bit_xor c0 a ≢ 0 → (k r : Unsorted) → Holds (drop 1 (entries u)) k → Holds (map (λ z. z ⊕ q) (entries k)) r → AreRoots m p f r
+      kept_roots e k r K W = (
+        subst (HoldsRoots m p f) (sym (W.0 ∙ ap₂ (λ (v : ℕ) (l : List ℕ). map (λ z. z ⊕ v) l) eq (K.0 ∙ ap (drop 1) u_is)))
+            (moved_roots (drop 1 zs) rest_once.1 (kept_are (λ z. e (l0_is ∙ z)))),
         W.1,
       )

@@ -1,28 +1,28 @@
--- The entries of a list of five or four, one by one (`five-entries`, `four-entries`), and of an equation by its kind. Assumes nothing.
+-- The entries of a list of five or four, one by one (`five_entries`, `four_entries`), and of an equation by its kind. Assumes nothing.
 use mathlib.Core.Path.{◌≡◌, refl, ◌∙◌}
 use mathlib.Core.List.{List, [], ◌∷◌}
 use Prim.Native.Nat.{ℕ}
 use native.Mathlib.Omega.{arith}
 use lib.Bits.{bit_or, or_add_and, and_le_l, and_le_r}
 use lib.ListN.{length, get_or}
-use Rattle.roots.specs.Equation.{quarticOf}
+use Rattle.roots.specs.Equation.{quartic_of}
 
-pub five-entries : (l : List ℕ) → length l ≡ 5 → l ≡ get_or l 0 0 ∷ get_or l 1 0 ∷ get_or l 2 0 ∷ get_or l 3 0 ∷ get_or l 4 0 ∷ []
-five-entries [] h = absurd (omega arith)
-five-entries (a ∷ []) h = absurd (omega arith)
-five-entries (a ∷ b ∷ []) h = absurd (omega arith)
-five-entries (a ∷ b ∷ c ∷ []) h = absurd (omega arith)
-five-entries (a ∷ b ∷ c ∷ d ∷ []) h = absurd (omega arith)
-five-entries (a ∷ b ∷ c ∷ d ∷ e ∷ []) h = refl
-five-entries (a ∷ b ∷ c ∷ d ∷ e ∷ f ∷ l) h = absurd (omega arith)
+pub five_entries : (l : List ℕ) → length l ≡ 5 → l ≡ get_or l 0 0 ∷ get_or l 1 0 ∷ get_or l 2 0 ∷ get_or l 3 0 ∷ get_or l 4 0 ∷ []
+five_entries [] h = absurd (omega arith)
+five_entries (a ∷ []) h = absurd (omega arith)
+five_entries (a ∷ b ∷ []) h = absurd (omega arith)
+five_entries (a ∷ b ∷ c ∷ []) h = absurd (omega arith)
+five_entries (a ∷ b ∷ c ∷ d ∷ []) h = absurd (omega arith)
+five_entries (a ∷ b ∷ c ∷ d ∷ e ∷ []) h = refl
+five_entries (a ∷ b ∷ c ∷ d ∷ e ∷ f ∷ l) h = absurd (omega arith)
 
-pub four-entries : (l : List ℕ) → length l ≡ 4 → l ≡ get_or l 0 0 ∷ get_or l 1 0 ∷ get_or l 2 0 ∷ get_or l 3 0 ∷ []
-four-entries [] h = absurd (omega arith)
-four-entries (a ∷ []) h = absurd (omega arith)
-four-entries (a ∷ b ∷ []) h = absurd (omega arith)
-four-entries (a ∷ b ∷ c ∷ []) h = absurd (omega arith)
-four-entries (a ∷ b ∷ c ∷ d ∷ []) h = refl
-four-entries (a ∷ b ∷ c ∷ d ∷ e ∷ l) h = absurd (omega arith)
+pub four_entries : (l : List ℕ) → length l ≡ 4 → l ≡ get_or l 0 0 ∷ get_or l 1 0 ∷ get_or l 2 0 ∷ get_or l 3 0 ∷ []
+four_entries [] h = absurd (omega arith)
+four_entries (a ∷ []) h = absurd (omega arith)
+four_entries (a ∷ b ∷ []) h = absurd (omega arith)
+four_entries (a ∷ b ∷ c ∷ []) h = absurd (omega arith)
+four_entries (a ∷ b ∷ c ∷ d ∷ []) h = refl
+four_entries (a ∷ b ∷ c ∷ d ∷ e ∷ l) h = absurd (omega arith)
 
 -- two numbers without a bit between them
 no_bits : (a b : ℕ) → bit_or a b ≡ 0 → (a ≡ 0) × (b ≡ 0)
@@ -34,16 +34,16 @@ no_bits a b e =
 
 -- the entries of an equation by its kind
 module _ (f : List ℕ) (h : length f ≡ 5) where
-  pub as-cubic : get_or f 4 0 ≡ 0 → f ≡ get_or f 0 0 ∷ get_or f 1 0 ∷ get_or f 2 0 ∷ get_or f 3 0 ∷ 0 ∷ []
-  as-cubic e = five-entries f h ∙ (λ i. get_or f 0 0 ∷ get_or f 1 0 ∷ get_or f 2 0 ∷ get_or f 3 0 ∷ e i ∷ [])
+  pub as_cubic : get_or f 4 0 ≡ 0 → f ≡ get_or f 0 0 ∷ get_or f 1 0 ∷ get_or f 2 0 ∷ get_or f 3 0 ∷ 0 ∷ []
+  as_cubic e = five_entries f h ∙ (λ i. get_or f 0 0 ∷ get_or f 1 0 ∷ get_or f 2 0 ∷ get_or f 3 0 ∷ e i ∷ [])
 
-  pub as-affine : get_or f 3 0 ≡ 0 → f ≡ quarticOf (get_or f 0 0) (get_or f 1 0) (get_or f 2 0) (get_or f 4 0)
-  as-affine e = five-entries f h ∙ (λ i. get_or f 0 0 ∷ get_or f 1 0 ∷ get_or f 2 0 ∷ e i ∷ get_or f 4 0 ∷ [])
+  pub as_affine : get_or f 3 0 ≡ 0 → f ≡ quartic_of (get_or f 0 0) (get_or f 1 0) (get_or f 2 0) (get_or f 4 0)
+  as_affine e = five_entries f h ∙ (λ i. get_or f 0 0 ∷ get_or f 1 0 ∷ get_or f 2 0 ∷ e i ∷ get_or f 4 0 ∷ [])
 
-  pub as-linear : bit_or (get_or f 2 0) (get_or f 4 0) ≡ 0 → get_or f 3 0 ≡ 0 → f ≡ get_or f 0 0 ∷ get_or f 1 0 ∷ 0 ∷ 0 ∷ 0 ∷ []
-  as-linear e b =
+  pub as_linear : bit_or (get_or f 2 0) (get_or f 4 0) ≡ 0 → get_or f 3 0 ≡ 0 → f ≡ get_or f 0 0 ∷ get_or f 1 0 ∷ 0 ∷ 0 ∷ 0 ∷ []
+  as_linear e b =
       let both = no_bits (get_or f 2 0) (get_or f 4 0) e in
-      five-entries f h ∙ (λ i. get_or f 0 0 ∷ get_or f 1 0 ∷ both.0 i ∷ b i ∷ both.1 i ∷ [])
+      five_entries f h ∙ (λ i. get_or f 0 0 ∷ get_or f 1 0 ∷ both.0 i ∷ b i ∷ both.1 i ∷ [])
 
-  pub as-constant : get_or f 1 0 ≡ 0 → bit_or (get_or f 2 0) (get_or f 4 0) ≡ 0 → get_or f 3 0 ≡ 0 → f ≡ get_or f 0 0 ∷ 0 ∷ 0 ∷ 0 ∷ 0 ∷ []
-  as-constant o e b = as-linear e b ∙ (λ i. get_or f 0 0 ∷ o i ∷ 0 ∷ 0 ∷ 0 ∷ [])
+  pub as_constant : get_or f 1 0 ≡ 0 → bit_or (get_or f 2 0) (get_or f 4 0) ≡ 0 → get_or f 3 0 ≡ 0 → f ≡ get_or f 0 0 ∷ 0 ∷ 0 ∷ 0 ∷ 0 ∷ []
+  as_constant o e b = as_linear e b ∙ (λ i. get_or f 0 0 ∷ o i ∷ 0 ∷ 0 ∷ 0 ∷ [])

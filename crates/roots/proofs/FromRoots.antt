@@ -7,54 +7,54 @@ use lib.ListN.{length, get_or, take, drop, replicate, length-drop}
 use lib.Seq.{drop-cons, drop-length, take_at, drop_at, drop-drop}
 use Rattle.algebra.specs.Lists.{padded}
 use Rattle.galois.specs.Field.{Field}
-use Rattle.galois.specs.Polynomial.{Coeffs, withRoot, build}
-use Rattle.galois.proofs.Build.{build-length, build-coeffs}
-use Rattle.galois.proofs.Padding.{coeffs-pad}
-use Rattle.roots.specs.Limits.{mostRoots, mostCoefficients}
+use Rattle.galois.specs.Polynomial.{Coeffs, with_root, build}
+use Rattle.galois.proofs.Build.{build-length, build_coeffs}
+use Rattle.galois.proofs.Padding.{coeffs_pad}
+use Rattle.roots.specs.Limits.{most_roots, most_coefficients}
 
 pub record Built (p : ℕ) (rs f : List ℕ) (i : ℕ) : Type 0 where
   pub within : i ≤ length rs
-  pub few : length rs ≤ mostRoots
-  pub so_far : f ≡ build p (drop i rs) ++ replicate (mostRoots - (length rs - i)) 0
+  pub few : length rs ≤ most_roots
+  pub so_far : f ≡ build p (drop i rs) ++ replicate (most_roots - (length rs - i)) 0
 
-pub building-start : (p : ℕ) (rs : List ℕ) → length rs ≤ mostRoots → Built p rs (1 ∷ 0 ∷ 0 ∷ 0 ∷ 0 ∷ []) (length rs)
+pub building_start : (p : ℕ) (rs : List ℕ) → length rs ≤ most_roots → Built p rs (1 ∷ 0 ∷ 0 ∷ 0 ∷ 0 ∷ []) (length rs)
 unfolding build
-building-start p rs h =
+building_start p rs h =
     let z : length rs - length rs ≡ 0 = omega arith in
     record { within = omega arith; few = h; so_far = rw (z, drop-length rs) refl }
 
 module _ (p : ℕ) (rs f : List ℕ) (i : ℕ) (B : Built p rs f i) where
-  pub building-small : (m : ℕ) → Field m p → Coeffs m f
-  building-small m F = rw B.so_far (coeffs-pad m (build p (drop i rs)) (mostRoots - (length rs - i)) (build-coeffs m p F (drop i rs)))
+  pub building_small : (m : ℕ) → Field m p → Coeffs m f
+  building_small m F = rw B.so_far (coeffs_pad m (build p (drop i rs)) (most_roots - (length rs - i)) (build_coeffs m p F (drop i rs)))
 
-  done-length : length (build p (drop i rs)) ≡ suc (length rs - i)
-  done-length = build-length p (drop i rs) ∙ ap suc (length-drop i rs)
+  done_length : length (build p (drop i rs)) ≡ suc (length rs - i)
+  done_length = build-length p (drop i rs) ∙ ap suc (length-drop i rs)
 
-  pub building-next : (j : ℕ) (next : List ℕ) → i ≡ suc j
-      → next ≡ withRoot p (get_or rs j 0) (take (length rs - j) f) ++ drop (suc (length rs - j)) f → Built p rs next j
+  pub building_next : (j : ℕ) (next : List ℕ) → i ≡ suc j
+      → next ≡ with_root p (get_or rs j 0) (take (length rs - j) f) ++ drop (suc (length rs - j)) f → Built p rs next j
   unfolding build
-  building-next j next e q =
+  building_next j next e q =
       let n : suc (length rs - i) ≡ length rs - j = omega (arith, B.within) in
-      let k : mostRoots - (length rs - i) ≡ suc (mostRoots - (length rs - j)) = omega (arith, B.within, B.few) in
+      let k : most_roots - (length rs - i) ≡ suc (most_roots - (length rs - j)) = omega (arith, B.within, B.few) in
       let o : length rs - j + 1 ≡ suc (length rs - j) = omega arith in
       let a = get_or rs j 0 in
       let F = build p (drop i rs) in
-      let Z : List ℕ = replicate (mostRoots - (length rs - i)) 0 in
-      let front : take (length rs - j) f ≡ F = ap (take (length rs - j)) B.so_far ∙ take_at F Z (length rs - j) (done-length ∙ n) in
-      let back : drop (suc (length rs - j)) f ≡ replicate (mostRoots - (length rs - j)) 0 =
+      let Z : List ℕ = replicate (most_roots - (length rs - i)) 0 in
+      let front : take (length rs - j) f ≡ F = ap (take (length rs - j)) B.so_far ∙ take_at F Z (length rs - j) (done_length ∙ n) in
+      let back : drop (suc (length rs - j)) f ≡ replicate (most_roots - (length rs - j)) 0 =
       sym (drop-drop 1 (length rs - j) f ∙ ap (λ (x : ℕ). drop x f) o)
-      ∙ ap (drop 1) (ap (drop (length rs - j)) B.so_far ∙ drop_at F Z (length rs - j) (done-length ∙ n))
+      ∙ ap (drop 1) (ap (drop (length rs - j)) B.so_far ∙ drop_at F Z (length rs - j) (done_length ∙ n))
       ∙ ap (λ (x : ℕ). drop 1 (replicate x 0)) k in
       record {
         within = omega (arith, B.within);
         few = B.few;
-        so_far = q ∙ ap₂ ◌++◌ (ap (withRoot p a) (front ∙ ap (λ (x : ℕ). build p (drop x rs)) e)) back
-            ∙ sym (ap (λ (l : List ℕ). build p l ++ replicate (mostRoots - (length rs - j)) 0) (drop-cons rs j 0 (omega (arith, B.within))));
+        so_far = q ∙ ap₂ ◌++◌ (ap (with_root p a) (front ∙ ap (λ (x : ℕ). build p (drop x rs)) e)) back
+            ∙ sym (ap (λ (l : List ℕ). build p l ++ replicate (most_roots - (length rs - j)) 0) (drop-cons rs j 0 (omega (arith, B.within))));
       }
 
-  pub building-end : i ≤ 0 → f ≡ padded mostCoefficients (build p rs)
-  building-end h =
+  pub building_end : i ≤ 0 → f ≡ padded most_coefficients (build p rs)
+  building_end h =
       let z : i ≡ 0 = omega arith in
       let n = build-length p rs in
-      let k : mostRoots - (length rs - 0) ≡ mostCoefficients - length (build p rs) = omega arith in
+      let k : most_roots - (length rs - 0) ≡ most_coefficients - length (build p rs) = omega arith in
       (rw z at B.so_far) ∙ ap (λ (x : ℕ). build p rs ++ replicate x 0) k

@@ -13,23 +13,23 @@ pub record Above (f : List ℕ) (i : ℕ) : Type 0 where
   pub within : i < length f
   pub zeros : (j : ℕ) → i < j → get_or f j 0 ≡ 0
 
-pub above-start : (f : List ℕ) (i : ℕ) → suc i ≡ length f → Above f i
-above-start f i e = record { within = omega arith; zeros = λ j l. get_or-eq_default f 0 (omega arith) }
+pub above_start : (f : List ℕ) (i : ℕ) → suc i ≡ length f → Above f i
+above_start f i e = record { within = omega arith; zeros = λ j l. get_or-eq_default f 0 (omega arith) }
 
 module _ (f : List ℕ) (i : ℕ) where
-  pub above-here : get_or f i 0 ≢ 0 → Above f i → IsDegree i f
-  above-here n A = record { within = A.within; top = n; above = A.zeros }
+  pub above_here : get_or f i 0 ≢ 0 → Above f i → IsDegree i f
+  above_here n A = record { within = A.within; top = n; above = A.zeros }
 
-  pub above-next : (k : ℕ) → i ≡ suc k → get_or f i 0 ≡ 0 → Above f i → Above f k
-  above-next k e z A = record { within = omega (arith, A.within); zeros = λ j l. go j l (ℕ_discrete j i) }
+  pub above_next : (k : ℕ) → i ≡ suc k → get_or f i 0 ≡ 0 → Above f i → Above f k
+  above_next k e z A = record { within = omega (arith, A.within); zeros = λ j l. go j l (ℕ_discrete j i) }
     where
       go : (j : ℕ) → k < j → Dec (j ≡ i) → get_or f j 0 ≡ 0
       go j l (yes q) = ap (λ (n : ℕ). get_or f n 0) q ∙ z
       go j l (no q) = A.zeros j (omega arith)
 
   -- the constant, since not all are 0
-  pub above-end : i ≤ 0 → (AllZero f → ⊥) → Above f i → IsDegree 0 f
-  above-end h n A =
+  pub above_end : i ≤ 0 → (AllZero f → ⊥) → Above f i → IsDegree 0 f
+  above_end h n A =
       let e : i ≡ 0 = omega arith in
       record {
         within = omega (arith, A.within);

@@ -9,96 +9,96 @@ use lib.Dec.{ltb}
 use lib.ListN.{length, replicate, length-append, length-replicate}
 use Rattle.algebra.specs.Lists.{padded}
 use Rattle.algebra.specs.Counts.{count}
-use Rattle.algebra.proofs.Search.{same-no}
-use Rattle.binary.specs.Factor.{degreeOf}
+use Rattle.algebra.proofs.Search.{same_no}
+use Rattle.binary.specs.Factor.{degree_of}
 use Rattle.galois.specs.Field.{Field}
-use Rattle.galois.specs.Polynomial.{value, Coeffs, build, factorsAt}
-use Rattle.galois.specs.Roots.{rootsOf, elementsOf}
-use Rattle.galois.proofs.Build.{build-length, build-coeffs, build-nonzero}
-use Rattle.galois.proofs.BuildRoots.{roots-back, multiplicities-back, build-product, build-order}
-use Rattle.galois.proofs.Padding.{value-pad, coeffs-pad, zero-pad}
-use Rattle.field.specs.Refusal.{◌⇒◌, refusal, gives, answerBy, anyTooLarge, polynomialTests}
-use Rattle.field.proofs.Refusal.{passes, answered-by, none-applies, same_answer}
-use Rattle.field.proofs.Coefficients.{count-right, coefficients-small, coefficients-pass}
-use Rattle.roots.specs.Limits.{mostCoefficients, mostRoots}
-use Rattle.roots.specs.Calls.{equationTests, buildTests, solved, refusedAnswer, solveAnswer, Built, built, refusedBuilt, buildAnswer}
-use Rattle.roots.proofs.Zeros.{nonzero-passes, solved-pad}
-use Rattle.roots.proofs.Tests.{build-passed}
+use Rattle.galois.specs.Polynomial.{value, Coeffs, build, factors_at}
+use Rattle.galois.specs.Roots.{roots_of, elements_of}
+use Rattle.galois.proofs.Build.{build-length, build_coeffs, build_nonzero}
+use Rattle.galois.proofs.BuildRoots.{roots_back, multiplicities_back, build-product, build_order}
+use Rattle.galois.proofs.Padding.{value_pad, coeffs_pad, zero_pad}
+use Rattle.field.specs.Refusal.{◌⇒◌, refusal, gives, answer_by, any_too_large, polynomial_tests}
+use Rattle.field.proofs.Refusal.{passes, answered_by, none_applies, same_answer}
+use Rattle.field.proofs.Coefficients.{count_right, coefficients_small, coefficients_pass}
+use Rattle.roots.specs.Limits.{most_coefficients, most_roots}
+use Rattle.roots.specs.Calls.{equation_tests, build_tests, solved, refused_answer, solve_answer, Built, built, refused_built, build_answer}
+use Rattle.roots.proofs.Zeros.{nonzero_passes, solved_pad}
+use Rattle.roots.proofs.Tests.{build_passed}
 
-module _ (p : ℕ) (rs : List ℕ) (z : refusal (buildTests p rs) ≡ 0) where
+module _ (p : ℕ) (rs : List ℕ) (z : refusal (build_tests p rs) ≡ 0) where
   abbrev m : ℕ
-  m = degreeOf p
+  m = degree_of p
 
   abbrev five : List ℕ
-  five = padded mostCoefficients (build p rs)
+  five = padded most_coefficients (build p rs)
 
   F : Field m p
-  F = (build-passed p rs z).0.ready.field
+  F = (build_passed p rs z).0.ready.field
 
   -- "the five coefficients of the product of all (x + r)"
-  pub is-built : buildAnswer p rs ≡ built p rs
-  is-built = sym (answered-by refusedBuilt (built p rs) (buildTests p rs) z)
+  pub is_built : build_answer p rs ≡ built p rs
+  is_built = sym (answered_by refused_built (built p rs) (build_tests p rs) z)
 
-  five-are : (buildAnswer p rs).coefficients ≡ five
-  five-are = ap (λ (b : Built). b.coefficients) is-built
+  five_are : (build_answer p rs).coefficients ≡ five
+  five_are = ap (λ (b : Built). b.coefficients) is_built
 
-  pub built-product : (x : ℕ) → value p (buildAnswer p rs).coefficients x ≡ factorsAt p rs x
+  pub built-product : (x : ℕ) → value p (build_answer p rs).coefficients x ≡ factors_at p rs x
   built-product x =
-      ap (λ (f : List ℕ). value p f x) five-are
-      ∙ value-pad p (build p rs) (mostCoefficients - length (build p rs)) x ∙ build-product m p F rs x
+      ap (λ (f : List ℕ). value p f x) five_are
+      ∙ value_pad p (build p rs) (most_coefficients - length (build p rs)) x ∙ build-product m p F rs x
 
   -- they are an equation that is solved
-  five-length : length five ≡ mostCoefficients
-  five-length =
-      let n = mostCoefficients - length (build p rs) in
+  five_length : length five ≡ most_coefficients
+  five_length =
+      let n = most_coefficients - length (build p rs) in
       let b = build-length p rs in
-      let l = (build-passed p rs z).1 in
+      let l = (build_passed p rs z).1 in
       length-append (build p rs) (replicate n 0) ∙ ap (λ (k : ℕ). length (build p rs) + k) (length-replicate n 0) ∙ omega arith
 
-  five-passes : refusal (equationTests p five) ≡ 0
-  five-passes =
-      let t = passes (buildTests p rs) tt z in
-      let n = mostCoefficients - length (build p rs) in
-      let l = five-length in
-      none-applies (equationTests p five) (
+  five_passes : refusal (equation_tests p five) ≡ 0
+  five_passes =
+      let t = passes (build_tests p rs) tt z in
+      let n = most_coefficients - length (build p rs) in
+      let l = five_length in
+      none_applies (equation_tests p five) (
         t.0,
         (
           t.1.0,
           (
-            count-right mostCoefficients (length five) (omega arith) (omega arith),
+            count_right most_coefficients (length five) (omega arith) (omega arith),
             (
-              coefficients-pass p five (coeffs-pad m (build p rs) n (build-coeffs m p F rs)),
-              (nonzero-passes five (λ w. build-nonzero m p F rs (zero-pad (build p rs) n w)), tt),
+              coefficients_pass p five (coeffs_pad m (build p rs) n (build_coeffs m p F rs)),
+              (nonzero_passes five (λ w. build_nonzero m p F rs (zero_pad (build p rs) n w)), tt),
             ),
           ),
         ),
       )
 
   -- building and solving gives the roots back, each as often as it was put in
-  pub round_trip : solveAnswer p (buildAnswer p rs).coefficients
+  pub round_trip : solve_answer p (build_answer p rs).coefficients
       ≡ record {
-        says = gives (length (elementsOf (degreeOf p) rs));
-        roots = padded mostRoots (elementsOf (degreeOf p) rs);
-        multiplicities = padded mostRoots (map (λ r. count r rs) (elementsOf (degreeOf p) rs));
+        says = gives (length (elements_of (degree_of p) rs));
+        roots = padded most_roots (elements_of (degree_of p) rs);
+        multiplicities = padded most_roots (map (λ r. count r rs) (elements_of (degree_of p) rs));
       }
   round_trip =
-      let es = elementsOf m rs in
-      let h = (build-passed p rs z).2 in
-      ap (solveAnswer p) five-are
-      ∙ sym (answered-by refusedAnswer (solved p five (rootsOf m p five)) (equationTests p five) five-passes)
-      ∙ solved-pad m p F (build p rs) (mostCoefficients - length (build p rs)) (build-nonzero m p F rs)
-      ∙ ap (solved p (build p rs)) (roots-back m p F rs h)
-      ∙ ap (λ (ks : List ℕ). record { says = gives (length es); roots = padded mostRoots es; multiplicities = padded mostRoots ks })
-      (multiplicities-back m p F rs h)
+      let es = elements_of m rs in
+      let h = (build_passed p rs z).2 in
+      ap (solve_answer p) five_are
+      ∙ sym (answered_by refused_answer (solved p five (roots_of m p five)) (equation_tests p five) five_passes)
+      ∙ solved_pad m p F (build p rs) (most_coefficients - length (build p rs)) (build_nonzero m p F rs)
+      ∙ ap (solved p (build p rs)) (roots_back m p F rs h)
+      ∙ ap (λ (ks : List ℕ). record { says = gives (length es); roots = padded most_roots es; multiplicities = padded most_roots ks })
+      (multiplicities_back m p F rs h)
 
 -- "in any order": two neighbours exchanged change nothing, neither the coefficients nor a refusal
-swap-small : (m : ℕ) (ks : List ℕ) (a b : ℕ) (rs : List ℕ) → Coeffs m (ks ++ a ∷ b ∷ rs) → Coeffs m (ks ++ b ∷ a ∷ rs)
-swap-small m [] a b rs h = (h.1.0, (h.0, h.1.1))
-swap-small m (k ∷ ks) a b rs h = (h.0, swap-small m ks a b rs h.1)
+swap_small : (m : ℕ) (ks : List ℕ) (a b : ℕ) (rs : List ℕ) → Coeffs m (ks ++ a ∷ b ∷ rs) → Coeffs m (ks ++ b ∷ a ∷ rs)
+swap_small m [] a b rs h = (h.1.0, (h.0, h.1.1))
+swap_small m (k ∷ ks) a b rs h = (h.0, swap_small m ks a b rs h.1)
 
-swap-length : (ks : List ℕ) (a b : ℕ) (rs : List ℕ) → length (ks ++ a ∷ b ∷ rs) ≡ length (ks ++ b ∷ a ∷ rs)
-swap-length [] a b rs = refl
-swap-length (k ∷ ks) a b rs = ap suc (swap-length ks a b rs)
+swap_length : (ks : List ℕ) (a b : ℕ) (rs : List ℕ) → length (ks ++ a ∷ b ∷ rs) ≡ length (ks ++ b ∷ a ∷ rs)
+swap_length [] a b rs = refl
+swap_length (k ∷ ks) a b rs = ap suc (swap_length ks a b rs)
 
 module _ (p : ℕ) (ks : List ℕ) (a b : ℕ) (rs : List ℕ) where
   abbrev one : List ℕ
@@ -107,20 +107,20 @@ module _ (p : ℕ) (ks : List ℕ) (a b : ℕ) (rs : List ℕ) where
   abbrev other : List ℕ
   other = ks ++ b ∷ a ∷ rs
 
-  same-large : anyTooLarge p one ≡ anyTooLarge p other
-  same-large =
-      same-no (anyTooLarge p one) (anyTooLarge p other) (
-        λ e. coefficients-pass p other (swap-small (degreeOf p) ks a b rs (coefficients-small p one e)),
-        λ e. coefficients-pass p one (swap-small (degreeOf p) ks b a rs (coefficients-small p other e)),
+  same_large : any_too_large p one ≡ any_too_large p other
+  same_large =
+      same_no (any_too_large p one) (any_too_large p other) (
+        λ e. coefficients_pass p other (swap_small (degree_of p) ks a b rs (coefficients_small p one e)),
+        λ e. coefficients_pass p one (swap_small (degree_of p) ks b a rs (coefficients_small p other e)),
       )
 
-  same-refusal : refusal (buildTests p one) ≡ refusal (buildTests p other)
+  same-refusal : refusal (build_tests p one) ≡ refusal (build_tests p other)
   same-refusal =
-      ap₂ (λ (n : ℕ) (c : Bool). refusal (polynomialTests p ++ ltb mostRoots n ⇒ 3 ∷ c ⇒ 4 ∷ [])) (swap-length ks a b rs) same-large
+      ap₂ (λ (n : ℕ) (c : Bool). refusal (polynomial_tests p ++ ltb most_roots n ⇒ 3 ∷ c ⇒ 4 ∷ [])) (swap_length ks a b rs) same_large
 
-  pub any_order : buildAnswer p one ≡ buildAnswer p other
+  pub any_order : build_answer p one ≡ build_answer p other
   any_order =
-      ap (λ (r : ℕ). answerBy r refusedBuilt (built p one)) same-refusal
-      ∙ same_answer (refusal (buildTests p other)) refusedBuilt (built p one) (built p other)
-      (λ e. ap (λ (f : List ℕ). record { says = gives tt; coefficients = padded mostCoefficients f })
-      (build-order (degreeOf p) p (build-passed p other e).0.ready.field ks a b rs))
+      ap (λ (r : ℕ). answer_by r refused_built (built p one)) same-refusal
+      ∙ same_answer (refusal (build_tests p other)) refused_built (built p one) (built p other)
+      (λ e. ap (λ (f : List ℕ). record { says = gives tt; coefficients = padded most_coefficients f })
+      (build_order (degree_of p) p (build_passed p other e).0.ready.field ks a b rs))

@@ -1,11 +1,11 @@
--- Any two answers that a promise permits are the same one (`one-roots`, `one-built`): an answer is got back from what it stands for. Assumes
+-- Any two answers that a promise permits are the same one (`one_roots`, `one_built`): an answer is got back from what it stands for. Assumes
 -- nothing.
 use mathlib.Core.Path.{◌≡◌, refl, ap}
 use Prim.Native.Nat.{ℕ}
-use Rattle.field.specs.Refusal.{Outcome, turnedDown, gives}
-use Rattle.field.proofs.Unique.{one-by-back}
+use Rattle.field.specs.Refusal.{Outcome, turned_down, gives}
+use Rattle.field.proofs.Unique.{one_by_back}
 use Rattle.roots.specs.Calls.{Answer, Built}
-use Rattle.roots.specs.Answers.{ofRootCount, ofRoots, ofBuilding, ofBuilt}
+use Rattle.roots.specs.Answers.{of_root_count, of_roots, of_building, of_built}
 use Rattle.roots.specs.declared.RootCount.{RootCount}
 use Rattle.roots.specs.declared.RootCount.TheVariants as count
 use Rattle.roots.specs.declared.RootsAnswer.{RootsAnswer}
@@ -13,38 +13,38 @@ use Rattle.roots.specs.declared.Building.{Building}
 use Rattle.roots.specs.declared.Building.TheVariants as building
 use Rattle.roots.specs.declared.BuiltAnswer.{BuiltAnswer}
 
-countBack : Outcome ℕ → RootCount
-countBack (turnedDown n) = count.TurnedDown n
-countBack (gives k) = count.Solved k
+count_back : Outcome ℕ → RootCount
+count_back (turned_down n) = count.TurnedDown n
+count_back (gives k) = count.Solved k
 
-count_same : (r : RootCount) → countBack (ofRootCount r) ≡ r
-unfolding countBack
+count_same : (r : RootCount) → count_back (of_root_count r) ≡ r
+unfolding count_back
 count_same (count.TurnedDown n) = refl
 count_same (count.Solved k) = refl
 
-pub one-roots : (r s : RootsAnswer) → ofRoots r ≡ ofRoots s → r ≡ s
-one-roots = one-by-back ofRoots back same
+pub one_roots : (r s : RootsAnswer) → of_roots r ≡ of_roots s → r ≡ s
+one_roots = one_by_back of_roots back same
   where
     back : Answer → RootsAnswer
-    back a = record { count = countBack a.says; roots = a.roots; multiplicities = a.multiplicities }
+    back a = record { count = count_back a.says; roots = a.roots; multiplicities = a.multiplicities }
 
-    same : (r : RootsAnswer) → back (ofRoots r) ≡ r
+    same : (r : RootsAnswer) → back (of_roots r) ≡ r
     same r = ap (λ (x : RootCount). record { count = x; roots = r.roots; multiplicities = r.multiplicities }) (count_same r.count)
 
-buildingBack : Outcome (Unit {0}) → Building
-buildingBack (turnedDown n) = building.TurnedDown n
-buildingBack (gives u) = building.Built
+building_back : Outcome (Unit {0}) → Building
+building_back (turned_down n) = building.TurnedDown n
+building_back (gives u) = building.Built
 
-building-same : (r : Building) → buildingBack (ofBuilding r) ≡ r
-unfolding buildingBack
-building-same (building.TurnedDown n) = refl
-building-same building.Built = refl
+building_same : (r : Building) → building_back (of_building r) ≡ r
+unfolding building_back
+building_same (building.TurnedDown n) = refl
+building_same building.Built = refl
 
-pub one-built : (r s : BuiltAnswer) → ofBuilt r ≡ ofBuilt s → r ≡ s
-one-built = one-by-back ofBuilt back same
+pub one_built : (r s : BuiltAnswer) → of_built r ≡ of_built s → r ≡ s
+one_built = one_by_back of_built back same
   where
     back : Built → BuiltAnswer
-    back a = record { building = buildingBack a.says; coefficients = a.coefficients }
+    back a = record { building = building_back a.says; coefficients = a.coefficients }
 
-    same : (r : BuiltAnswer) → back (ofBuilt r) ≡ r
-    same r = ap (λ (x : Building). record { building = x; coefficients = r.coefficients }) (building-same r.building)
+    same : (r : BuiltAnswer) → back (of_built r) ≡ r
+    same r = ap (λ (x : Building). record { building = x; coefficients = r.coefficients }) (building_same r.building)

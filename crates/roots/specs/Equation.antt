@@ -21,24 +21,24 @@ pub record HoldsRoots (m p : ℕ) (f xs : List ℕ) : Type 0 where
   pub once : Nodup xs
 
 -- c + l0·x + l1·x^2 + l2·x^4 as a polynomial
-abbrev pub quarticOf : ℕ → ℕ → ℕ → ℕ → List ℕ
-quarticOf c l0 l1 l2 = c ∷ l0 ∷ l1 ∷ 0 ∷ l2 ∷ []
+abbrev pub quartic_of : ℕ → ℕ → ℕ → ℕ → List ℕ
+quartic_of c l0 l1 l2 = c ∷ l0 ∷ l1 ∷ 0 ∷ l2 ∷ []
 
-abbrev pub foldedIf : Bool → ℕ → ℕ → ℕ → ℕ → List ℕ
-foldedIf true c l0 l1 l2 = c ∷ (l0 ⊕ l2) ∷ l1 ∷ []
-foldedIf false c l0 l1 l2 = c ∷ l0 ∷ l1 ∷ l2 ∷ []
+abbrev pub folded_if : Bool → ℕ → ℕ → ℕ → ℕ → List ℕ
+folded_if true c l0 l1 l2 = c ∷ (l0 ⊕ l2) ∷ l1 ∷ []
+folded_if false c l0 l1 l2 = c ∷ l0 ∷ l1 ∷ l2 ∷ []
 
 -- and as an affine equation. "For m = 2 affine equations stop at x^2; there x^4 is x for every element, and the two terms are added."
 unfoldable pub folded : ℕ → ℕ → ℕ → ℕ → ℕ → List ℕ
-folded m c l0 l1 l2 = foldedIf (eqb m 2) c l0 l1 l2
+folded m c l0 l1 l2 = folded_if (eqb m 2) c l0 l1 l2
 
 -- "s the square root of C/A", with c1 for C and c3 for A
 unfoldable pub shift : ℕ → ℕ → ℕ → ℕ → ℕ
 shift m p c1 c3 = power p (quotient_of m p c1 c3) (2 ^ (m - 1))
 
 -- "put x = s + 1/y"
-unfoldable pub fromInverse : ℕ → ℕ → ℕ → ℕ → ℕ
-fromInverse m p s y = s ⊕ quotient_of m p 1 y
+unfoldable pub from_inverse : ℕ → ℕ → ℕ → ℕ → ℕ
+from_inverse m p s y = s ⊕ quotient_of m p 1 y
 
 -- elements that have an inverse
 abbrev pub Units : ℕ → List ℕ → Type 0

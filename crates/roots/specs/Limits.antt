@@ -2,9 +2,9 @@
 use Rattle.std.specs.Prelude.{ℕ}
 
 -- "one to five coefficients"
-abbrev pub mostCoefficients : ℕ
-mostCoefficients = 5
+abbrev pub most_coefficients : ℕ
+most_coefficients = 5
 
 -- "four places for roots and four for multiplicities"
-abbrev pub mostRoots : ℕ
-mostRoots = 4
+abbrev pub most_roots : ℕ
+most_roots = 4

@@ -1,8 +1,8 @@
 // Equations of degree up to 4 over GF(2^m): the public calls. Each takes the field polynomial and tests its input; none asks anything of its
 // caller, and each answers by its definition in specs/Calls, for every input.
 ghost use Rattle.std.specs.Prelude.{◌≡◌};
-ghost use Rattle.roots.specs.Answers.{ofRoots, ofBuilt};
-ghost use Rattle.roots.specs.Calls.{solveAnswer, buildAnswer};
+ghost use Rattle.roots.specs.Answers.{of_roots, of_built};
+ghost use Rattle.roots.specs.Calls.{solve_answer, build_answer};
 
 pub mod inner;
 pub mod limits;
@@ -43,7 +43,7 @@ pub struct BuiltAnswer {
 
 // Every root of the polynomial with these coefficients, constant first, with its multiplicity.
 pub fn solve(p: u32, coefficients: &[u32]) -> RootsAnswer
-    ensures { ofRoots result ≡ solveAnswer p coefficients.now }
+    ensures { of_roots result ≡ solve_answer p coefficients.now }
 {
     let refused = equation::refusal(p, coefficients);
     if refused != 0 {
@@ -58,7 +58,7 @@ pub fn solve(p: u32, coefficients: &[u32]) -> RootsAnswer
 
 // The coefficients of the product of all (x + r), constant first.
 pub fn build(p: u32, roots: &[u32]) -> BuiltAnswer
-    ensures { ofBuilt result ≡ buildAnswer p roots.now }
+    ensures { of_built result ≡ build_answer p roots.now }
 {
     let refused = building::refusal(p, roots);
     if refused != 0 {

@@ -1,7 +1,7 @@
 // What an elimination found, as the calls answer it.
 ghost use Rattle.std.specs.Prelude.{◌≡◌, ◌≤◌};
 ghost use Rattle.linear.specs.Limits.{places};
-ghost use Rattle.affine.specs.Answers.{ofAffine, answer_of, rootCount};
+ghost use Rattle.affine.specs.Answers.{of_affine, answer_of, root_count};
 
 use crate::{AffineAnswer, RootSpace};
 use binary::inner::digit::power_of_two;
@@ -10,7 +10,7 @@ use linear::inner::solution::Solution;
 
 pub fn of_solution(s: Solution) -> AffineAnswer
     requires { s.count ≤ places }
-    ensures { ofAffine result ≡ answer_of s }
+    ensures { of_affine result ≡ answer_of s }
 {
     let directions = s.directions;
     if s.found {
@@ -31,7 +31,7 @@ pub fn of_solution(s: Solution) -> AffineAnswer
 // How many roots there are.
 pub fn root_count(s: Solution) -> u32
     requires { s.count ≤ places }
-    ensures { result ≡ rootCount s.found s.count }
+    ensures { result ≡ root_count s.found s.count }
 {
     if s.found {
         return power_of_two(s.count as u32);

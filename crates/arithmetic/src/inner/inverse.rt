@@ -1,7 +1,7 @@
 // The inverse by Euclid's algorithm, one digit a turn, with no branch but the loop's; and the quotient.
 ghost use Rattle.std.specs.Prelude.{◌≡◌, ◌^◌, ◌<◌};
 ghost use Rattle.binary.specs.Product.{product};
-ghost use Rattle.arithmetic.specs.Choice.{lessDigit, chosen_of};
+ghost use Rattle.arithmetic.specs.Choice.{less_digit, chosen_of};
 ghost use Rattle.arithmetic.specs.Modulus.{FieldModulus};
 ghost use Rattle.arithmetic.specs.Quotient.{quotient_of};
 
@@ -10,7 +10,7 @@ use binary::inner::modulo::product;
 
 // 1 where x is below y, else 0.
 fn less(x: u32, y: u32) -> u32
-    ensures { (result ≡ lessDigit x y) × (result < 2) }
+    ensures { (result ≡ less_digit x y) × (result < 2) }
 {
     if x < y {
         return 1;

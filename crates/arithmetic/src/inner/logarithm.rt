@@ -2,7 +2,7 @@
 ghost use Rattle.std.specs.Prelude.{◌≡◌, ◌^◌, ◌<◌};
 ghost use Rattle.binary.specs.Product.{Modulus};
 ghost use Rattle.arithmetic.specs.Modulus.{FieldModulus};
-ghost use Rattle.arithmetic.specs.Number.{number_of, elementOf};
+ghost use Rattle.arithmetic.specs.Number.{number_of, element_of};
 
 use crate::inner::power::raised;
 use binary::inner::digit::power_of_two;
@@ -29,7 +29,7 @@ pub fn number(p: u32, m: u32, a: u32) -> u32
 // And back: 0 for the number 0, else x to the power n - 1.
 pub fn element(p: u32, m: u32, n: u32) -> u32
     requires { FieldModulus m p }
-    ensures { result ≡ elementOf p n }
+    ensures { result ≡ element_of p n }
 {
     if n == 0 {
         return 0;

@@ -5,7 +5,7 @@ ghost use Rattle.binary.specs.Product.{product};
 ghost use Rattle.galois.specs.Power.{power};
 ghost use Rattle.galois.specs.Trace.{trace};
 ghost use Rattle.arithmetic.specs.Modulus.{FieldModulus};
-ghost use Rattle.arithmetic.specs.Power.{powerOf};
+ghost use Rattle.arithmetic.specs.Power.{power_of};
 
 use crate::inner::inverse::inverse;
 use binary::inner::modulo::product;
@@ -58,7 +58,7 @@ pub fn raised(p: u32, m: u32, a: u32, n: u32) -> u32
 // A negative exponent raises the inverse.
 pub fn power(p: u32, m: u32, a: u32, e: i32) -> u32
     requires { FieldModulus m p × (a < 2 ^ m) × (lt_z e (pos 0) ≡ true → 0 < a) }
-    ensures { result ≡ powerOf m p a e }
+    ensures { result ≡ power_of m p a e }
 {
     let size = magnitude(e);
     if is_negative(e) {

@@ -2,7 +2,7 @@
 ghost use Rattle.std.specs.Prelude.{◌≡◌, ◌-◌, ◌^◌, ◌<◌};
 ghost use Rattle.galois.specs.Power.{power};
 ghost use Rattle.arithmetic.specs.Modulus.{FieldModulus};
-ghost use Rattle.arithmetic.specs.EvenDigits.{evenDigits};
+ghost use Rattle.arithmetic.specs.EvenDigits.{even_digits};
 
 use crate::inner::inverse::quotient;
 use binary::inner::modulo::product;
@@ -10,7 +10,7 @@ use binary::inner::modulo::product;
 // The sixteen digits of x at the places 0, 2, 4, .., side by side. Single digits are moved into pairs, pairs into fours, fours into
 // eights and eights into the lower half of the word.
 fn even_digits(x: u32) -> u32
-    ensures { result ≡ evenDigits 16 x }
+    ensures { result ≡ even_digits 16 x }
 {
     let single = x & 0x55555555;
     let pairs = (single ^ single >> 1) & 0x33333333;

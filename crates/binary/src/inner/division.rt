@@ -1,6 +1,6 @@
 // Division of a polynomial, by one divisor or by a block of them at once.
 ghost use Rattle.std.specs.Prelude.{◌≡◌, ◌<◌, nat_eq, slice_index};
-ghost use Rattle.algebra.specs.Search.{someBelow};
+ghost use Rattle.algebra.specs.Search.{some_below};
 ghost use Rattle.binary.specs.Remainder.{remainder, divides};
 ghost use Rattle.binary.specs.Factor.{Division};
 ghost use Rattle.binary.specs.Block.{block, raise, turn, entries, Divisions};
@@ -56,7 +56,7 @@ fn turned_each(rests: [u32; BLOCK], divisors: [u32; BLOCK]) -> [u32; BLOCK]
 }
 
 fn has_zero(rests: [u32; BLOCK]) -> bool
-    ensures { result ≡ someBelow (λ i. nat_eq (slice_index rests i) 0) block }
+    ensures { result ≡ some_below (λ i. nat_eq (slice_index rests i) 0) block }
 {
     for i in 0..BLOCK {
         if rests[i] == 0 {
@@ -70,7 +70,7 @@ fn has_zero(rests: [u32; BLOCK]) -> bool
 // that one vector instruction does several. (`next`: the kit takes an array from a call only into a new local.)
 pub fn some_divides(a: u32, m: u32, divisors: [u32; BLOCK], k: u32) -> bool
     requires { Divisions m k a divisors }
-    ensures { result ≡ someBelow (λ i. divides (slice_index divisors i) a) block }
+    ensures { result ≡ some_below (λ i. divides (slice_index divisors i) a) block }
 {
     let raised = raised(divisors, k);
     let mut rests = [a << (31 - m); BLOCK];

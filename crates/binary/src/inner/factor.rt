@@ -1,10 +1,10 @@
 // The test of a field polynomial: trial division, to the first divisor.
 ghost use Rattle.std.specs.Prelude.{◌≡◌, suc, ◌+◌, ◌-◌, ◌≤◌, min, slice_index};
-ghost use Rattle.algebra.specs.Search.{someBelow};
+ghost use Rattle.algebra.specs.Search.{some_below};
 ghost use Rattle.binary.specs.Remainder.{divides};
 ghost use Rattle.binary.specs.Product.{Modulus};
 ghost use Rattle.binary.specs.Block.{block, entries, Room};
-ghost use Rattle.binary.specs.Factor.{factorFree};
+ghost use Rattle.binary.specs.Factor.{factor_free};
 
 use crate::inner::digit::{degree, power_of_two};
 use crate::inner::division::{BLOCK, remainder, some_divides};
@@ -12,7 +12,7 @@ use crate::inner::division::{BLOCK, remainder, some_divides};
 // Whether one of 2, 3, .., 7 divides p, as far as they are below the limit.
 fn few_divide(p: u32, m: u32, limit: u32) -> bool
     requires { Modulus m p × (limit ≤ p) }
-    ensures { result ≡ someBelow (λ i. divides (suc (suc i)) p) (min limit block - 2) }
+    ensures { result ≡ some_below (λ i. divides (suc (suc i)) p) (min limit block - 2) }
 {
     for d in 2..8 {
         if limit <= d {
@@ -41,7 +41,7 @@ fn following(divisors: [u32; BLOCK]) -> [u32; BLOCK]
 // tried in blocks of 8, the last three digits running through all values, so that those of a block have the same degree.
 pub fn factor_free(p: u32, m: u32) -> bool
     requires { Modulus m p }
-    ensures { result ≡ factorFree m p }
+    ensures { result ≡ factor_free m p }
 {
     let limit = power_of_two(m / 2 + 1);
     if few_divide(p, m, limit) {

@@ -1,13 +1,13 @@
 // The product modulo a polynomial p of degree m.
 ghost use Rattle.std.specs.Prelude.{◌≡◌, ◌^◌, ◌<◌};
-ghost use Rattle.binary.specs.Product.{product, timesX, Modulus};
+ghost use Rattle.binary.specs.Product.{product, times_x, Modulus};
 
 use crate::inner::digit::picked;
 
 // x times the polynomial x: a shift, and p taken off where a digit goes out at the top.
 pub fn doubled(p: u32, m: u32, x: u32) -> u32
     requires { Modulus m p × (x < 2 ^ m) }
-    ensures { result ≡ timesX p x }
+    ensures { result ≡ times_x p x }
 {
     x * 2 ^ picked(x >> (m - 1), p)
 }

@@ -11,10 +11,10 @@ use mir.Syntax.{w32}
 use mir.Val.{SFits}
 use mir.Facts.{to_z-of_z}
 use borrow.Author.Rules.{rules}
-use Rattle.field.specs.Refusal.{◌⇒◌, elementTests}
-use Rattle.arithmetic.specs.Power.{powerOf}
-use Rattle.field.proofs.Refusal.{down-first, down-last, given-last, element-passed}
-use Rattle.field.proofs.Ready.{element-ready}
+use Rattle.field.specs.Refusal.{◌⇒◌, element_tests}
+use Rattle.arithmetic.specs.Power.{power_of}
+use Rattle.field.proofs.Refusal.{down_first, down_last, given_last, element_passed}
+use Rattle.field.proofs.Ready.{element_ready}
 use Rattle.field.proofs.power.Statement.{statement}
 use Rattle.field.proofs.power.Tie as tie
 
@@ -29,7 +29,7 @@ of-element-requires c κs = search rules
 returns : tie.Need-returns
 returns c =
     let a = c.before.before.args in
-    down-first _ _ (elementTests a.p a.a.0) ((eqb a.a.0 0 && lt_z a.e.0 (pos 0)) ⇒ 6 ∷ []) c.before.of-element.ensures c.if1.true
+    down_first _ _ (element_tests a.p a.a.0) ((eqb a.a.0 0 && lt_z a.e.0 (pos 0)) ⇒ 6 ∷ []) c.before.of-element.ensures c.if1.true
 
 zero-to-negative-requires : tie.Need-zero-to-negative-requires
 zero-to-negative-requires c κs = search rules
@@ -38,19 +38,19 @@ returns-2 : tie.Need-returns-2
 returns-2 c =
     let a = c.before.before.before.before.before.args in
     let f : SFits w32 a.e.0 = search rules in
-    down-last _ _ 6 (eqb a.a.0 0 && lt_z a.e.0 (pos 0)) (elementTests a.p a.a.0) tt c.before.before.before.before.of-element.ensures
+    down_last _ _ 6 (eqb a.a.0 0 && lt_z a.e.0 (pos 0)) (element_tests a.p a.a.0) tt c.before.before.before.before.of-element.ensures
     c.before.before.before.if1.false (sym (rw (to_z-of_z f) at c.before.zero-to-negative.ensures) ∙ c.if2.true) (λ z. omega arith)
 
 degree-of-requires : tie.Need-degree-of-requires
 degree-of-requires c κs =
     let a = c.before.before.before.before.before.args in
-    (element-passed a.p a.a.0 (sym c.before.before.before.before.of-element.ensures ∙ c.before.before.before.if1.false)).0
+    (element_passed a.p a.a.0 (sym c.before.before.before.before.of-element.ensures ∙ c.before.before.before.if1.false)).0
 
 power-requires : tie.Need-power-requires
 power-requires c κs =
     let d = c.before in
     let a = d.before.before.before.before.before.before.args in
-    let q = element-ready d.degree-of.result a.p d.degree-of.ensures a.a.0 _ d.before.before.before.before.before.of-element.ensures
+    let q = element_ready d.degree_of_lem.result a.p d.degree_of_lem.ensures a.a.0 _ d.before.before.before.before.before.of-element.ensures
     d.before.before.before.before.if1.false in
     let f : SFits w32 a.e.0 = search rules in
     (q.0, q.1, rw (to_z-of_z f) (positive a.a.0 a.e.0 _ (rw (to_z-of_z f) at d.before.before.zero-to-negative.ensures) d.before.if2.false))
@@ -60,9 +60,9 @@ returns-3 c =
     let d = c.before.before in
     let a = d.before.before.before.before.before.before.args in
     let f : SFits w32 a.e.0 = search rules in
-    given-last _ _ _ 6 (eqb a.a.0 0 && lt_z a.e.0 (pos 0)) (elementTests a.p a.a.0) tt d.before.before.before.before.before.of-element.ensures
+    given_last _ _ _ 6 (eqb a.a.0 0 && lt_z a.e.0 (pos 0)) (element_tests a.p a.a.0) tt d.before.before.before.before.before.of-element.ensures
     d.before.before.before.before.if1.false (sym (rw (to_z-of_z f) at d.before.before.zero-to-negative.ensures) ∙ d.before.if2.false)
-    ((rw (to_z-of_z f) at c.power.ensures) ∙ ap (λ (k : ℕ). powerOf k a.p a.a.0 a.e.0) d.degree-of.ensures)
+    ((rw (to_z-of_z f) at c.power.ensures) ∙ ap (λ (k : ℕ). power_of k a.p a.a.0 a.e.0) d.degree_of_lem.ensures)
 
 pub power-spec : {M : Type 1} → statement M
 power-spec =

@@ -7,10 +7,10 @@ use mir.Syntax.{w32}
 use mir.Val.{SFits}
 use mir.Facts.{to_z-of_z}
 use borrow.Author.Rules.{rules}
-use Rattle.field.specs.Refusal.{polynomialTests}
-use Rattle.arithmetic.specs.Power.{powerOf}
+use Rattle.field.specs.Refusal.{polynomial_tests}
+use Rattle.arithmetic.specs.Power.{power_of}
 use Rattle.field.proofs.Refusal.{down, given, accepted}
-use Rattle.field.proofs.Ready.{polynomial-ready}
+use Rattle.field.proofs.Ready.{polynomial_ready}
 use Rattle.field.proofs.power_of_x.Statement.{statement}
 use Rattle.field.proofs.power_of_x.Tie as tie
 
@@ -18,7 +18,7 @@ of-polynomial-requires : tie.Need-of-polynomial-requires
 of-polynomial-requires c κs = search rules
 
 returns : tie.Need-returns
-returns c = down _ _ (polynomialTests c.before.before.args.p) c.before.of-polynomial.ensures c.if1.true
+returns c = down _ _ (polynomial_tests c.before.before.args.p) c.before.of-polynomial.ensures c.if1.true
 
 degree-of-requires : tie.Need-degree-of-requires
 degree-of-requires c κs = accepted c.before.before.args.p (sym c.before.of-polynomial.ensures ∙ c.if1.false)
@@ -26,7 +26,7 @@ degree-of-requires c κs = accepted c.before.before.args.p (sym c.before.of-poly
 power-requires : tie.Need-power-requires
 power-requires c κs =
     let d = c.before in
-    let q = polynomial-ready d.degree-of.result d.before.before.before.args.p d.degree-of.ensures _ d.before.before.of-polynomial.ensures
+    let q = polynomial_ready d.degree_of_lem.result d.before.before.before.args.p d.degree_of_lem.ensures _ d.before.before.of-polynomial.ensures
     d.before.if1.false in
     let w = pow_mono q.modulus.two in
     (q, omega arith, λ h. omega arith)
@@ -36,8 +36,8 @@ returns-2 c =
     let d = c.before.before in
     let a = d.before.before.before.args in
     let f : SFits w32 a.e.0 = search rules in
-    given _ _ (polynomialTests a.p) (sym d.before.before.of-polynomial.ensures ∙ d.before.if1.false)
-    ((rw (to_z-of_z f) at c.power.ensures) ∙ ap (λ (k : ℕ). powerOf k a.p 2 a.e.0) d.degree-of.ensures)
+    given _ _ (polynomial_tests a.p) (sym d.before.before.of-polynomial.ensures ∙ d.before.if1.false)
+    ((rw (to_z-of_z f) at c.power.ensures) ∙ ap (λ (k : ℕ). power_of k a.p 2 a.e.0) d.degree_of_lem.ensures)
 
 pub power-of-x-spec : {M : Type 1} → statement M
 power-of-x-spec =

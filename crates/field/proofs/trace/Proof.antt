@@ -3,9 +3,9 @@ use mathlib.Core.Path.{sym, ap, ◌∙◌}
 use Prim.Native.Nat.{ℕ}
 use borrow.Author.Rules.{rules}
 use Rattle.galois.specs.Trace.{trace}
-use Rattle.field.specs.Refusal.{elementTests}
-use Rattle.field.proofs.Refusal.{down, given, element-passed}
-use Rattle.field.proofs.Ready.{element-ready}
+use Rattle.field.specs.Refusal.{element_tests}
+use Rattle.field.proofs.Refusal.{down, given, element_passed}
+use Rattle.field.proofs.Ready.{element_ready}
 use Rattle.field.proofs.trace.Statement.{statement}
 use Rattle.field.proofs.trace.Tie as tie
 
@@ -13,23 +13,23 @@ of-element-requires : tie.Need-of-element-requires
 of-element-requires c κs = search rules
 
 returns : tie.Need-returns
-returns c = let a = c.before.before.args in down _ _ (elementTests a.p a.c.0) c.before.of-element.ensures c.if1.true
+returns c = let a = c.before.before.args in down _ _ (element_tests a.p a.c.0) c.before.of-element.ensures c.if1.true
 
 degree-of-requires : tie.Need-degree-of-requires
 degree-of-requires c κs =
     let a = c.before.before.args in
-    (element-passed a.p a.c.0 (sym c.before.of-element.ensures ∙ c.if1.false)).0
+    (element_passed a.p a.c.0 (sym c.before.of-element.ensures ∙ c.if1.false)).0
 
 trace-requires : tie.Need-trace-requires
 trace-requires c κs =
     let a = c.before.before.before.args in
-    (element-ready c.degree-of.result a.p c.degree-of.ensures a.c.0 _ c.before.before.of-element.ensures c.before.if1.false)
+    (element_ready c.degree_of_lem.result a.p c.degree_of_lem.ensures a.c.0 _ c.before.before.of-element.ensures c.before.if1.false)
 
 returns-2 : tie.Need-returns-2
 returns-2 c =
     let a = c.before.before.before.before.args in
-    given _ _ (elementTests a.p a.c.0) (sym c.before.before.before.of-element.ensures ∙ c.before.before.if1.false)
-    (c.trace.ensures ∙ ap (λ (k : ℕ). trace k a.p a.c.0) c.before.degree-of.ensures)
+    given _ _ (element_tests a.p a.c.0) (sym c.before.before.before.of-element.ensures ∙ c.before.before.if1.false)
+    (c.trace.ensures ∙ ap (λ (k : ℕ). trace k a.p a.c.0) c.before.degree_of_lem.ensures)
 
 pub trace-spec : {M : Type 1} → statement M
 trace-spec =

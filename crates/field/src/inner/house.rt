@@ -1,7 +1,7 @@
 // The house table: one polynomial per degree, from the smallest degree on.
 ghost use Rattle.std.specs.Prelude.{◌≡◌, ◌≤◌};
-ghost use Rattle.field.specs.House.{houseEntry};
-ghost use Rattle.field.specs.Limits.{smallestDegree, largestDegree};
+ghost use Rattle.field.specs.House.{house_entry};
+ghost use Rattle.field.specs.Limits.{smallest_degree, largest_degree};
 
 use crate::limits::SMALLEST_DEGREE;
 
@@ -10,8 +10,8 @@ const HOUSE: [u32; 15] = [
 ];
 
 pub fn entry(degree: u32) -> u32
-    requires { (smallestDegree ≤ degree) × (degree ≤ largestDegree) }
-    ensures { result ≡ houseEntry degree }
+    requires { (smallest_degree ≤ degree) × (degree ≤ largest_degree) }
+    ensures { result ≡ house_entry degree }
 {
     HOUSE[(degree - SMALLEST_DEGREE) as usize]
 }

@@ -1,9 +1,9 @@
 // The tests that a public call begins with, in the order of the table of numbers; 0 where none applies.
 ghost use Rattle.std.specs.Prelude.{◌≡◌, ◌&&◌, eqb, pos};
 ghost use Rattle.std.specs.Int.Signed.{lt_z};
-ghost use Rattle.binary.specs.Factor.{degreeOf};
+ghost use Rattle.binary.specs.Factor.{degree_of};
 ghost use Rattle.field.specs.Accepted.{Accepted};
-ghost use Rattle.field.specs.Refusal.{refusal, tooLarge, anyTooLarge, wrongCount, polynomialTests, listTests, elementTests, elementsTests};
+ghost use Rattle.field.specs.Refusal.{refusal, too_large, any_too_large, wrong_count, polynomial_tests, list_tests, element_tests, elements_tests};
 
 use crate::limits::{POLYNOMIAL_CEILING, POLYNOMIAL_FLOOR};
 use crate::refused;
@@ -14,13 +14,13 @@ use binary::inner::factor::factor_free;
 // The degree m of an accepted polynomial.
 pub fn degree_of(p: u32) -> u32
     requires { Accepted p }
-    ensures { result ≡ degreeOf p }
+    ensures { result ≡ degree_of p }
 {
     degree(p)
 }
 
 pub fn of_polynomial(p: u32) -> u32
-    ensures { result ≡ refusal (polynomialTests p) }
+    ensures { result ≡ refusal (polynomial_tests p) }
 {
     if p < POLYNOMIAL_FLOOR {
         return refused::OUT_OF_RANGE;
@@ -37,14 +37,14 @@ pub fn of_polynomial(p: u32) -> u32
 // Whether a is no element of the field: 2^m or more.
 fn too_large(p: u32, a: u32) -> bool
     requires { Accepted p }
-    ensures { result ≡ tooLarge p a }
+    ensures { result ≡ too_large p a }
 {
     power_of_two(degree_of(p)) <= a
 }
 
 // Whether there are no coefficients, or more than there may be.
 pub fn wrong_count(most: usize, count: usize) -> bool
-    ensures { result ≡ wrongCount most count }
+    ensures { result ≡ wrong_count most count }
 {
     if count == 0 {
         return true;
@@ -55,7 +55,7 @@ pub fn wrong_count(most: usize, count: usize) -> bool
 // Whether one of the coefficients is no element of the field.
 fn any_too_large(p: u32, coefficients: &[u32]) -> bool
     requires { Accepted p }
-    ensures { result ≡ anyTooLarge p coefficients.now }
+    ensures { result ≡ any_too_large p coefficients.now }
 {
     for i in 0..coefficients.len() {
         if too_large(p, coefficients[i]) {
@@ -68,7 +68,7 @@ fn any_too_large(p: u32, coefficients: &[u32]) -> bool
 // The number that a list of coefficients is turned down by: their count is wrong, or one of them is no element.
 pub fn of_list(p: u32, wrong: bool, coefficients: &[u32]) -> u32
     requires { Accepted p }
-    ensures { result ≡ refusal (listTests p wrong coefficients.now) }
+    ensures { result ≡ refusal (list_tests p wrong coefficients.now) }
 {
     if wrong {
         return refused::WRONG_COUNT;
@@ -80,7 +80,7 @@ pub fn of_list(p: u32, wrong: bool, coefficients: &[u32]) -> u32
 }
 
 pub fn of_element(p: u32, a: u32) -> u32
-    ensures { result ≡ refusal (elementTests p a) }
+    ensures { result ≡ refusal (element_tests p a) }
 {
     let refused = of_polynomial(p);
     if refused != 0 {
@@ -93,7 +93,7 @@ pub fn of_element(p: u32, a: u32) -> u32
 }
 
 pub fn of_elements(p: u32, a: u32, b: u32) -> u32
-    ensures { result ≡ refusal (elementsTests p a b) }
+    ensures { result ≡ refusal (elements_tests p a b) }
 {
     let refused = of_element(p, a);
     if refused != 0 {

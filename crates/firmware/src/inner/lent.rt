@@ -1,13 +1,13 @@
 // Values put into the lists that a caller lends.
 ghost use Rattle.std.specs.Prelude.{◌≡◌, [], ◌∷◌, ◌++◌, ◌≤◌, length, drop};
-ghost use Rattle.field.specs.Answers.{ofElement};
-ghost use Rattle.firmware.specs.Lent.{fits, returned, after, value_of, Refuses, roomNumber};
+ghost use Rattle.field.specs.Answers.{of_element};
+ghost use Rattle.firmware.specs.Lent.{fits, returned, after, value_of, Refuses, room_number};
 
 use field::{ElementAnswer, refused};
 
 // A value in the first place of a list, where it has one.
 pub fn put(value: u32, list: &mut [u32]) -> u32
-    ensures value { result ≡ roomNumber (fits 1 list.old) }
+    ensures value { result ≡ room_number (fits 1 list.old) }
     ensures list_after { list.new ≡ after result (value ∷ []) list.old }
 {
     if list.len() == 0 {
@@ -19,9 +19,9 @@ pub fn put(value: u32, list: &mut [u32]) -> u32
 
 // The value of an answer, or its number.
 pub fn put_element(answer: ElementAnswer, list: &mut [u32]) -> u32
-    requires { Refuses (ofElement answer) }
-    ensures value { result ≡ returned (ofElement answer) (fits 1 list.old) }
-    ensures list_after { list.new ≡ after result (value_of (ofElement answer)) list.old }
+    requires { Refuses (of_element answer) }
+    ensures value { result ≡ returned (of_element answer) (fits 1 list.old) }
+    ensures list_after { list.new ≡ after result (value_of (of_element answer)) list.old }
 {
     match answer {
         ElementAnswer::TurnedDown(number) => number,

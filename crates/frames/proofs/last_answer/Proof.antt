@@ -2,7 +2,7 @@
 use mathlib.Core.Path.{◌∙◌}
 use native.Mathlib.Omega.{arith}
 use borrow.Author.Rules.{rules}
-use Rattle.frames.proofs.OneCall.{no_line, input-ends}
+use Rattle.frames.proofs.OneCall.{no_line, input_ends}
 use Rattle.frames.proofs.last_answer.Statement.{statement}
 use Rattle.frames.proofs.last_answer.Tie as tie
 
@@ -19,7 +19,7 @@ returns-2 : tie.Need-returns-2
 returns-2 c =
     let w = c.before.before.before.put-line.ensures in
     let n = c.counted.ensures in
-    input-ends _ _ _ _ c.before.before.before.before.before.if1.false (n.0 ∙ w.0) w.1.0 n.1
+    input_ends _ _ _ _ c.before.before.before.before.before.if1.false (n.0 ∙ w.0) w.1.0 n.1
 
 pub last-answer-spec : {M : Type 1} → statement M
 last-answer-spec = tie.close (tie.spec returns put-line-requires counted-requires returns-2)

@@ -3,8 +3,8 @@ use mathlib.Core.Path.{sym, ◌∙◌}
 use native.Mathlib.Omega.{arith}
 use borrow.Author.Rules.{rules}
 use lib.Seq.{length-take-le}
-use Rattle.frames.proofs.Feeds.{feed-within}
-use Rattle.frames.proofs.OneCall.{goes_on, line-ends}
+use Rattle.frames.proofs.Feeds.{feed_within}
+use Rattle.frames.proofs.OneCall.{goes_on, line_ends}
 use Rattle.frames.proofs.next_answer.Statement.{statement}
 use Rattle.frames.proofs.next_answer.Tie as tie
 
@@ -14,7 +14,7 @@ until-feed-requires c κs = search rules
 slice-aggregate-kept : tie.Need-slice-aggregate-kept
 slice-aggregate-kept c =
     let chunk = c.before.before.before.before.args.chunk.now in
-    sym (length-take-le _ chunk (omega (arith, feed-within chunk, c.before.before.until-feed.ensures)))
+    sym (length-take-le _ chunk (omega (arith, feed_within chunk, c.before.before.until-feed.ensures)))
 
 kept-requires : tie.Need-kept-requires
 kept-requires c κs = search rules
@@ -34,7 +34,7 @@ counted-requires c κs = omega (arith, c.before.before.put-line.ensures.1.1, c.c
 add-t13 : tie.Need-overflow-add-t13
 add-t13 c =
     let s = c.before.before.before.before.before.before.before.before.before.before.before.before in
-    omega (arith, feed-within s.args.chunk.now, c.before.before.before.before.before.before.before.before.before.before.until-feed.ensures, s.well-formed.1.1.0.0)
+    omega (arith, feed_within s.args.chunk.now, c.before.before.before.before.before.before.before.before.before.before.until-feed.ensures, s.well_formed.1.1.0.0)
 
 returns-2 : tie.Need-returns-2
 returns-2 c =
@@ -43,7 +43,7 @@ returns-2 c =
     let long = c.before.before.before.before.before.before.before.before.before.kept-arg.given.0.1 in
     let w = c.before.before.before.put-line.ensures in
     let n = c.counted.ensures in
-    line-ends a.begun.length _ a.chunk.now _ _ _ c.before.before.before.before.before.before.before.before.before.before.until-feed.ensures k.0 k.1 long _ c.before.before.before.before.before.before.if1.false (n.0 ∙ w.0) w.1.0 n.1
+    line_ends a.begun.length _ a.chunk.now _ _ _ c.before.before.before.before.before.before.before.before.before.before.until-feed.ensures k.0 k.1 long _ c.before.before.before.before.before.before.if1.false (n.0 ∙ w.0) w.1.0 n.1
 
 pub next-answer-spec : {M : Type 1} → statement M
 next-answer-spec =

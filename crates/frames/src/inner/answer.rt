@@ -1,12 +1,12 @@
 // The calls' answers as bytes of text. Each function says how many bytes it has put.
 ghost use Rattle.std.specs.Prelude.{◌≡◌, [], ◌∷◌, ◌++◌, ◌+◌, ◌*◌, ◌≤◌, ◌<◌, length};
 ghost use Rattle.linear.specs.Limits.{places};
-ghost use Rattle.affine.specs.Answers.{ofAffine};
-ghost use Rattle.roots.specs.Limits.{mostRoots};
-ghost use Rattle.roots.specs.Answers.{ofRoots};
-ghost use Rattle.frames.specs.Limits.{answerRoom};
-ghost use Rattle.frames.specs.Text.{elementBytes, up_to, putBytes};
-ghost use Rattle.frames.specs.Answer.{rootBytes, directionBytes, rootsBytes, affineBytes, FewRoots, FewDirections};
+ghost use Rattle.affine.specs.Answers.{of_affine};
+ghost use Rattle.roots.specs.Limits.{most_roots};
+ghost use Rattle.roots.specs.Answers.{of_roots};
+ghost use Rattle.frames.specs.Limits.{answer_room};
+ghost use Rattle.frames.specs.Text.{element_bytes, up_to, put_bytes};
+ghost use Rattle.frames.specs.Answer.{root_bytes, direction_bytes, roots_bytes, affine_bytes, FewRoots, FewDirections};
 
 use crate::inner::frame::{AFFINE, DEGREE_UP_TO_4};
 use crate::inner::text::{put_byte, put_element};
@@ -19,7 +19,7 @@ use roots::{RootCount, RootsAnswer};
 // Turned down: a first byte, the kind or FF, and the number.
 pub fn put_refusal(out: &mut [u8; ANSWER_ROOM], first: u32, number: u32) -> usize
     ensures value { result ≡ 2 }
-    ensures out_after { out.new ≡ putBytes out.old 0 (first ∷ number ∷ []) }
+    ensures out_after { out.new ≡ put_bytes out.old 0 (first ∷ number ∷ []) }
 {
     put_byte(out, 0, first);
     put_byte(out, 1, number);
@@ -28,8 +28,8 @@ pub fn put_refusal(out: &mut [u8; ANSWER_ROOM], first: u32, number: u32) -> usiz
 
 // A root and its multiplicity.
 fn put_root(out: &mut [u8; ANSWER_ROOM], j: usize, root: u32, multiplicity: u32)
-    requires { 2 * j + 5 < answerRoom }
-    ensures { out.new ≡ putBytes out.old j (elementBytes root ++ multiplicity ∷ []) }
+    requires { 2 * j + 5 < answer_room }
+    ensures { out.new ≡ put_bytes out.old j (element_bytes root ++ multiplicity ∷ []) }
 {
     put_element(out, j, root);
     put_byte(out, j + 2, multiplicity);
@@ -41,8 +41,8 @@ fn put_roots(
     roots: [u32; MOST_ROOTS],
     multiplicities: [u32; MOST_ROOTS],
 )
-    requires { count ≤ mostRoots }
-    ensures { out.new ≡ putBytes out.old 3 (up_to (rootBytes roots multiplicities) count) }
+    requires { count ≤ most_roots }
+    ensures { out.new ≡ put_bytes out.old 3 (up_to (root_bytes roots multiplicities) count) }
 {
     for i in 0..count {
         put_root(out, 3 + 3 * i, roots[i], multiplicities[i]);
@@ -51,7 +51,7 @@ fn put_roots(
 
 fn put_directions(out: &mut [u8; ANSWER_ROOM], count: usize, directions: [u32; PLACES])
     requires { count ≤ places }
-    ensures { out.new ≡ putBytes out.old 6 (up_to (directionBytes directions) count) }
+    ensures { out.new ≡ put_bytes out.old 6 (up_to (direction_bytes directions) count) }
 {
     for i in 0..count {
         put_element(out, 6 + 2 * i, directions[i]);
@@ -65,9 +65,9 @@ fn put_solved(
     roots: [u32; MOST_ROOTS],
     multiplicities: [u32; MOST_ROOTS],
 ) -> usize
-    requires { count ≤ mostRoots }
+    requires { count ≤ most_roots }
     ensures value { result ≡ 3 + 3 * count }
-    ensures out_after { out.new ≡ putBytes out.old 0 (1 ∷ 0 ∷ count ∷ up_to (rootBytes roots multiplicities) count) }
+    ensures out_after { out.new ≡ put_bytes out.old 0 (1 ∷ 0 ∷ count ∷ up_to (root_bytes roots multiplicities) count) }
 {
     put_byte(out, 0, DEGREE_UP_TO_4);
     put_byte(out, 1, 0);
@@ -87,7 +87,7 @@ fn put_space(
 ) -> usize
     requires { k ≤ places }
     ensures value { result ≡ 6 + 2 * k }
-    ensures out_after { out.new ≡ putBytes out.old 0 (2 ∷ 0 ∷ found ∷ k ∷ elementBytes base ++ up_to (directionBytes directions) k) }
+    ensures out_after { out.new ≡ put_bytes out.old 0 (2 ∷ 0 ∷ found ∷ k ∷ element_bytes base ++ up_to (direction_bytes directions) k) }
 {
     put_byte(out, 0, AFFINE);
     put_byte(out, 1, 0);
@@ -100,9 +100,9 @@ fn put_space(
 }
 
 pub fn put_roots_answer(out: &mut [u8; ANSWER_ROOM], answer: RootsAnswer) -> usize
-    requires { FewRoots (ofRoots answer).says }
-    ensures value { result ≡ length (rootsBytes (ofRoots answer)) }
-    ensures out_after { out.new ≡ putBytes out.old 0 (rootsBytes (ofRoots answer)) }
+    requires { FewRoots (of_roots answer).says }
+    ensures value { result ≡ length (roots_bytes (of_roots answer)) }
+    ensures out_after { out.new ≡ put_bytes out.old 0 (roots_bytes (of_roots answer)) }
 {
     let count = answer.count;
     let roots = answer.roots;
@@ -114,9 +114,9 @@ pub fn put_roots_answer(out: &mut [u8; ANSWER_ROOM], answer: RootsAnswer) -> usi
 }
 
 pub fn put_affine_answer(out: &mut [u8; ANSWER_ROOM], answer: AffineAnswer) -> usize
-    requires { FewDirections (ofAffine answer).says }
-    ensures value { result ≡ length (affineBytes (ofAffine answer)) }
-    ensures out_after { out.new ≡ putBytes out.old 0 (affineBytes (ofAffine answer)) }
+    requires { FewDirections (of_affine answer).says }
+    ensures value { result ≡ length (affine_bytes (of_affine answer)) }
+    ensures out_after { out.new ≡ put_bytes out.old 0 (affine_bytes (of_affine answer)) }
 {
     let space = answer.space;
     let base = answer.base;

@@ -1,7 +1,7 @@
 // A line to its answer, by the call that its kind asks for. Each function says how many bytes it has put.
 ghost use Rattle.std.specs.Prelude.{◌≡◌, eqb, length};
-ghost use Rattle.frames.specs.Text.{putBytes};
-ghost use Rattle.frames.specs.Answer.{calledBytes, answerBytes};
+ghost use Rattle.frames.specs.Text.{put_bytes};
+ghost use Rattle.frames.specs.Answer.{called_bytes, answer_bytes};
 
 use crate::inner::answer::{put_affine_answer, put_refusal, put_roots_answer};
 use crate::inner::frame::{DEGREE_UP_TO_4, coefficients_of, count_of, kind_of, polynomial_of};
@@ -12,8 +12,8 @@ use crate::limits::ANSWER_ROOM;
 pub const NO_KIND: u32 = 255;
 
 fn put_called(out: &mut [u8; ANSWER_ROOM], kind: u32, p: u32, coefficients: &[u32]) -> usize
-    ensures value { result ≡ length (calledBytes (eqb kind 1) p coefficients.now) }
-    ensures out_after { out.new ≡ putBytes out.old 0 (calledBytes (eqb kind 1) p coefficients.now) }
+    ensures value { result ≡ length (called_bytes (eqb kind 1) p coefficients.now) }
+    ensures out_after { out.new ≡ put_bytes out.old 0 (called_bytes (eqb kind 1) p coefficients.now) }
 {
     if kind == DEGREE_UP_TO_4 {
         return put_roots_answer(out, roots::solve(p, coefficients));
@@ -22,8 +22,8 @@ fn put_called(out: &mut [u8; ANSWER_ROOM], kind: u32, p: u32, coefficients: &[u3
 }
 
 pub fn put_answer(out: &mut [u8; ANSWER_ROOM], line: &[u8]) -> usize
-    ensures value { result ≡ length (answerBytes line.now) }
-    ensures out_after { out.new ≡ putBytes out.old 0 (answerBytes line.now) }
+    ensures value { result ≡ length (answer_bytes line.now) }
+    ensures out_after { out.new ≡ put_bytes out.old 0 (answer_bytes line.now) }
 {
     let refused = refusal(line);
     if refused != 0 {

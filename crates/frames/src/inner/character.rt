@@ -1,6 +1,6 @@
 // Hexadecimal characters: the digit that one stands for, and the one that stands for a digit.
 ghost use Rattle.std.specs.Prelude.{◌≡◌, ◌≤◌, ◌<◌};
-ghost use Rattle.frames.specs.Frame.{between, digitValue};
+ghost use Rattle.frames.specs.Frame.{between, digit_value};
 ghost use Rattle.frames.specs.Text.{capital};
 
 // What stands for a character that is no digit.
@@ -17,7 +17,7 @@ fn between(first: u32, last: u32, c: u32) -> bool
 
 // Of either letter case.
 pub fn digit_value(c: u8) -> u32
-    ensures value { result ≡ digitValue c }
+    ensures value { result ≡ digit_value c }
     ensures upper_bound { result ≤ 16 }
 {
     let character = c as u32;

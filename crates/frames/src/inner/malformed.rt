@@ -1,7 +1,7 @@
 // Whether a line is malformed.
 ghost use Rattle.std.specs.Prelude.{◌≡◌, ◌≤◌, length};
 ghost use Rattle.field.specs.Refusal.{refusal};
-ghost use Rattle.frames.specs.Frame.{anotherCharacter, anotherKind, disagrees, lineTests};
+ghost use Rattle.frames.specs.Frame.{another_character, another_kind, disagrees, line_tests};
 
 use crate::inner::character::{NO_DIGIT, digit_value};
 use crate::inner::frame::{AFFINE, DEGREE_UP_TO_4, count_of, kind_of};
@@ -9,7 +9,7 @@ use crate::limits::MOST_DIGITS;
 use crate::refused::MALFORMED;
 
 fn another_character(line: &[u8]) -> bool
-    ensures { result ≡ anotherCharacter line.now }
+    ensures { result ≡ another_character line.now }
 {
     for i in 0..line.len() {
         if digit_value(line[i]) == NO_DIGIT {
@@ -21,7 +21,7 @@ fn another_character(line: &[u8]) -> bool
 
 fn another_kind(line: &[u8]) -> bool
     requires { 10 ≤ length line.now }
-    ensures { result ≡ anotherKind line.now }
+    ensures { result ≡ another_kind line.now }
 {
     let kind = kind_of(line);
     if kind == DEGREE_UP_TO_4 {
@@ -39,7 +39,7 @@ fn disagrees(line: &[u8]) -> bool
 
 // 8 where the line is malformed, else 0. Of a line longer than the most digits nothing is read.
 pub fn refusal(line: &[u8]) -> u32
-    ensures { result ≡ refusal (lineTests line.now) }
+    ensures { result ≡ refusal (line_tests line.now) }
 {
     if MOST_DIGITS < line.len() {
         return MALFORMED;

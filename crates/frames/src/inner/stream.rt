@@ -1,10 +1,10 @@
 // The bytes of a line as they come, and the answer once it has ended.
 ghost use Rattle.std.specs.Prelude.{◌≡◌, ◌+◌, ◌-◌, ◌≤◌, ◌<◌, min, length, take};
 ghost use Rattle.std.proofs.lemmas.List.Edits.{sets};
-ghost use Rattle.frames.specs.Limits.{mostDigits, answerRoom};
-ghost use Rattle.frames.specs.Text.{putBytes};
-ghost use Rattle.frames.specs.Answer.{answerBytes};
-ghost use Rattle.frames.specs.Stream.{beforeFeed, lengthened, keptAfter, held, answerLine};
+ghost use Rattle.frames.specs.Limits.{most_digits, answer_room};
+ghost use Rattle.frames.specs.Text.{put_bytes};
+ghost use Rattle.frames.specs.Answer.{answer_bytes};
+ghost use Rattle.frames.specs.Stream.{before_feed, lengthened, kept_after, held, answer_line};
 
 use crate::inner::answer::put_refusal;
 use crate::inner::call::{NO_KIND, put_answer};
@@ -18,7 +18,7 @@ const TOO_LONG: usize = MOST_DIGITS + 1;
 
 // How many bytes stand before the first line feed; all of them where there is none.
 pub fn until_feed(chunk: &[u8]) -> usize
-    ensures { result ≡ length (beforeFeed chunk.now) }
+    ensures { result ≡ length (before_feed chunk.now) }
 {
     for i in 0..chunk.len() {
         if chunk[i] == LINE_FEED {
@@ -30,7 +30,7 @@ pub fn until_feed(chunk: &[u8]) -> usize
 
 // How many of k bytes more are kept after n.
 fn room(n: usize, k: usize) -> usize
-    ensures { result ≡ min (mostDigits - n) k }
+    ensures { result ≡ min (most_digits - n) k }
 {
     if MOST_DIGITS < n {
         return 0;
@@ -56,9 +56,9 @@ fn lengthened(n: usize, k: usize) -> usize
 
 // Puts bytes after the n that are kept, as far as there is room; the line's length after that.
 pub fn kept(line: &mut [u8], n: usize, bytes: &[u8]) -> usize
-    requires { length line.old ≡ mostDigits }
+    requires { length line.old ≡ most_digits }
     ensures value { result ≡ lengthened n (length bytes.now) }
-    ensures line_after { line.new ≡ keptAfter n line.old bytes.now }
+    ensures line_after { line.new ≡ kept_after n line.old bytes.now }
 {
     let fit = room(n, bytes.len());
     for i in 0..fit {
@@ -69,16 +69,16 @@ pub fn kept(line: &mut [u8], n: usize, bytes: &[u8]) -> usize
 
 fn put_front(out: &mut [u8; ANSWER_ROOM], line: &[u8], n: usize) -> usize
     requires { n ≤ length line.now }
-    ensures value { result ≡ length (answerBytes (take n line.now)) }
-    ensures out_after { out.new ≡ putBytes out.old 0 (answerBytes (take n line.now)) }
+    ensures value { result ≡ length (answer_bytes (take n line.now)) }
+    ensures out_after { out.new ≡ put_bytes out.old 0 (answer_bytes (take n line.now)) }
 {
     put_answer(out, &line[..n])
 }
 
 // The bytes of the answer to a line that has ended. Says how many.
 fn put_held(out: &mut [u8; ANSWER_ROOM], line: &[u8; MOST_DIGITS], n: usize) -> usize
-    ensures value { result ≡ length (answerBytes (held n line.now)) }
-    ensures out_after { out.new ≡ putBytes out.old 0 (answerBytes (held n line.now)) }
+    ensures value { result ≡ length (answer_bytes (held n line.now)) }
+    ensures out_after { out.new ≡ put_bytes out.old 0 (answer_bytes (held n line.now)) }
 {
     if MOST_DIGITS < n {
         return put_refusal(out, NO_KIND, MALFORMED);
@@ -88,9 +88,9 @@ fn put_held(out: &mut [u8; ANSWER_ROOM], line: &[u8; MOST_DIGITS], n: usize) -> 
 
 // The answer to a line, and a line feed.
 pub fn put_line(out: &mut [u8; ANSWER_ROOM], line: &[u8; MOST_DIGITS], n: usize) -> usize
-    ensures value { result ≡ length (answerLine (held n line.now)) }
-    ensures out_after { out.new ≡ sets out.old 0 (answerLine (held n line.now)) }
-    ensures upper_bound { result ≤ answerRoom }
+    ensures value { result ≡ length (answer_line (held n line.now)) }
+    ensures out_after { out.new ≡ sets out.old 0 (answer_line (held n line.now)) }
+    ensures upper_bound { result ≤ answer_room }
 {
     let length = 2 * put_held(out, line, n);
     out[length] = LINE_FEED;

@@ -4,12 +4,12 @@ use Prim.Native.Nat.{◌≤◌}
 use native.Mathlib.Omega.{arith}
 use borrow.Author.Rules.{rules}
 use lib.ListN.{length}
-use Rattle.gfroots.specs.Output.{outputRoom}
+use Rattle.gfroots.specs.Output.{output_room}
 use Rattle.gfroots.proofs.all.Statement.{statement}
 use Rattle.gfroots.proofs.all.Tie as tie
 
 abbrev invariant-loop : tie.invariant-loop
-invariant-loop line₀ chunk₀ buffer₀ state₀ turns₀ line chunk buffer state turns = (state.output.waiting ≤ outputRoom) × (length chunk ≡ length chunk₀)
+invariant-loop line₀ chunk₀ buffer₀ state₀ turns₀ line chunk buffer state turns = (state.output.waiting ≤ output_room) × (length chunk ≡ length chunk₀)
 
 abbrev decreases-loop : tie.decreases-loop
 decreases-loop line₀ chunk₀ buffer₀ state₀ turns₀ line chunk buffer state turns = turns

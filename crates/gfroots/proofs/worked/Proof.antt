@@ -3,13 +3,13 @@ use Prim.Native.Nat.{◌-◌, ◌≤◌}
 use native.Mathlib.Omega.{arith}
 use borrow.Author.Rules.{rules}
 use lib.ListN.{length}
-use Rattle.gfroots.specs.Output.{outputRoom}
-use Rattle.gfroots.proofs.Rest.{next-within, next-further}
+use Rattle.gfroots.specs.Output.{output_room}
+use Rattle.gfroots.proofs.Rest.{next_within, next_further}
 use Rattle.gfroots.proofs.worked.Statement.{statement}
 use Rattle.gfroots.proofs.worked.Tie as tie
 
 abbrev invariant-loop : tie.invariant-loop
-invariant-loop line₀ chunk buffer₀ state₀ at₀ line buffer state at = (at ≤ length chunk) × (state.output.waiting ≤ outputRoom)
+invariant-loop line₀ chunk buffer₀ state₀ at₀ line buffer state at = (at ≤ length chunk) × (state.output.waiting ≤ output_room)
 
 abbrev decreases-loop : tie.decreases-loop
 decreases-loop line₀ chunk buffer₀ state₀ at₀ line buffer state at = length chunk - at
@@ -33,16 +33,16 @@ add_at : tie.Need-overflow-add-at invariant-loop decreases-loop
 add_at c =
     let s = c.before.before.before.before.before.before.before.before.before in
     let l = c.before.before.before.before.before.before.before.loop in
-    omega (arith, next-within s.args.chunk.now l.at _ c.before.before.before.before.before.before.loop-test.true c.before.before.call.ensures.1, s.well-formed.1.1.0.0)
+    omega (arith, next_within s.args.chunk.now l.at _ c.before.before.before.before.before.before.loop-test.true c.before.before.call.ensures.1, s.well_formed.1.1.0.0)
 
 returns : tie.Need-returns invariant-loop decreases-loop
 returns c = c.before.before.before.before.call.ensures.0
 
 loop-less : tie.Need-loop-smaller invariant-loop decreases-loop
-loop-less c = next-further c.before.before.before.before.before.before.before.before.before.before.before.args.chunk.now c.before.before.before.before.before.before.before.before.before.loop.at _ c.before.before.before.before.before.before.before.before.loop-test.true c.before.before.before.before.call.ensures.1
+loop-less c = next_further c.before.before.before.before.before.before.before.before.before.before.before.args.chunk.now c.before.before.before.before.before.before.before.before.before.loop.at _ c.before.before.before.before.before.before.before.before.loop-test.true c.before.before.before.before.call.ensures.1
 
 loop-again : tie.Need-loop-preserved invariant-loop decreases-loop
-loop-again c = (next-within c.before.before.before.before.before.before.before.before.before.before.before.args.chunk.now c.before.before.before.before.before.before.before.before.before.loop.at _ c.before.before.before.before.before.before.before.before.loop-test.true c.before.before.before.before.call.ensures.1, c.before.before.before.before.call.ensures.0)
+loop-again c = (next_within c.before.before.before.before.before.before.before.before.before.before.before.args.chunk.now c.before.before.before.before.before.before.before.before.before.loop.at _ c.before.before.before.before.before.before.before.before.loop-test.true c.before.before.before.before.call.ensures.1, c.before.before.before.before.call.ensures.0)
 
 returns-2 : tie.Need-returns-2 invariant-loop decreases-loop
 returns-2 c = c.before.loop.invariant.1

@@ -1,7 +1,7 @@
 // All solutions in a lent list, by doubling: the first 2^j entries, each combined with direction j, are the next 2^j.
 ghost use Rattle.std.specs.Prelude.{◌≡◌, ◌++◌, map, ℕ, ◌+◌, ◌^◌, ◌≤◌, ◌<◌, length, get_or, drop};
 ghost use Rattle.std.proofs.Math.Seq.{paste};
-ghost use Rattle.algebra.specs.Lists.{countUp};
+ghost use Rattle.algebra.specs.Lists.{count_up};
 ghost use Rattle.binary.specs.Xor.{◌⊕◌};
 ghost use Rattle.linear.specs.Limits.{places, width};
 ghost use Rattle.linear.specs.Directions.{choose};
@@ -31,7 +31,7 @@ fn doubled(list: &mut [Entry], size: usize, d: Entry)
 // The base combined with each choice of the first `count` directions, in the order of the numbers that choose; entries after them stay.
 pub fn list_all(list: &mut [Entry], base: u32, count: usize, directions: [u32; PLACES])
     requires { (count ≤ places) × (2 ^ count ≤ length list.old) × (base < 2 ^ width) × ((i : ℕ) → i < count → get_or directions i 0 < 2 ^ width) }
-    ensures { list.new ≡ map (λ k. base ⊕ choose directions k) (countUp 0 (2 ^ count)) ++ drop (2 ^ count) list.old }
+    ensures { list.new ≡ map (λ k. base ⊕ choose directions k) (count_up 0 (2 ^ count)) ++ drop (2 ^ count) list.old }
 {
     list[0] = entry(base);
     let mut size: usize = 1;

@@ -1,8 +1,8 @@
 // What is read off the reduced rows: whether there is a solution, the base, and the directions.
 ghost use Rattle.std.specs.Prelude.{◌≡◌, true, ◌≤◌, ◌<◌, length};
 ghost use Rattle.linear.specs.Limits.{places};
-ghost use Rattle.linear.specs.Reading.{MarksFit, column, broken, pivotColumns, freeDirections};
-ghost use Rattle.linear.specs.Solution.{solutionIf, solutionBy, solvesRows, inKernel};
+ghost use Rattle.linear.specs.Reading.{MarksFit, column, broken, pivot_columns, free_directions};
+ghost use Rattle.linear.specs.Solution.{solution_if, solution_by, solves_rows, in_kernel};
 
 use crate::inner::elimination::{PLACES, Reduced, eliminated, may_pivot};
 use binary::inner::digit::{bit, picked, power_of_two};
@@ -32,7 +32,7 @@ fn contradicts(m: u32, s: Reduced) -> bool
 // The columns that have a pivot row, as bits.
 fn pivot_columns(s: Reduced) -> u32
     requires { MarksFit s }
-    ensures { result ≡ pivotColumns s places }
+    ensures { result ≡ pivot_columns s places }
 {
     let mut columns: u32 = 0;
     for i in 0..PLACES {
@@ -56,7 +56,7 @@ fn column(s: Reduced, f: u32) -> u32
 // The base is what goes with the right-hand side, and each free column has a direction: its own bit, and what goes with it.
 fn read(m: u32, s: Reduced) -> Solution
     requires { (m ≤ places) × (length s.rows ≡ places) × MarksFit s }
-    ensures { result ≡ solutionIf true (column s m places) (freeDirections s m 0) }
+    ensures { result ≡ solution_if true (column s m places) (free_directions s m 0) }
 {
     let base = column(s, m);
     let pivots = pivot_columns(s);
@@ -78,7 +78,7 @@ fn read(m: u32, s: Reduced) -> Solution
 
 pub fn solved(m: u32, rows: [u32; PLACES]) -> Solution
     requires { m ≤ places }
-    ensures { result ≡ solutionBy m (solvesRows m rows) (inKernel rows) }
+    ensures { result ≡ solution_by m (solves_rows m rows) (in_kernel rows) }
 {
     let s = eliminated(m, rows);
     if contradicts(m, s) {

@@ -1,7 +1,7 @@
 // The rows of a system that is given by its columns: bit j of row i is bit i of column j, bit m is bit i of the right-hand side.
 ghost use Rattle.std.specs.Prelude.{◌≡◌, ℕ, ◌≤◌, ◌<◌, get_or};
 ghost use Rattle.linear.specs.Limits.{places};
-ghost use Rattle.linear.specs.Matrix.{withColumn, rows_of};
+ghost use Rattle.linear.specs.Matrix.{with_column, rows_of};
 
 use crate::inner::elimination::PLACES;
 use binary::inner::digit::{bit, picked, power_of_two};
@@ -9,7 +9,7 @@ use binary::inner::digit::{bit, picked, power_of_two};
 // One column more, at bit j.
 fn with_column(rows: [u32; PLACES], column: u32, j: u32) -> [u32; PLACES]
     requires { j < 32 }
-    ensures { result ≡ withColumn j column rows }
+    ensures { result ≡ with_column j column rows }
 {
     let power = power_of_two(j);
     let mut out = rows;

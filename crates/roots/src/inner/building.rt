@@ -4,8 +4,8 @@ ghost use Rattle.algebra.specs.Lists.{padded};
 ghost use Rattle.galois.specs.Polynomial.{Coeffs, build};
 ghost use Rattle.arithmetic.specs.Modulus.{FieldModulus};
 ghost use Rattle.field.specs.Refusal.{refusal};
-ghost use Rattle.roots.specs.Limits.{mostCoefficients, mostRoots};
-ghost use Rattle.roots.specs.Calls.{buildTests};
+ghost use Rattle.roots.specs.Limits.{most_coefficients, most_roots};
+ghost use Rattle.roots.specs.Calls.{build_tests};
 
 use crate::inner::polynomial::with_root;
 use crate::limits::{MOST_COEFFICIENTS, MOST_ROOTS};
@@ -13,7 +13,7 @@ use field::inner::refusal::{of_list, of_polynomial};
 
 // The number that the polynomial or the roots are turned down by; 0 where none applies.
 pub fn refusal(p: u32, roots: &[u32]) -> u32
-    ensures { result ≡ refusal (buildTests p roots.now) }
+    ensures { result ≡ refusal (build_tests p roots.now) }
 {
     let refused = of_polynomial(p);
     if refused != 0 {
@@ -24,8 +24,8 @@ pub fn refusal(p: u32, roots: &[u32]) -> u32
 
 // From the last root to the first, beginning with 1.
 pub fn built(p: u32, m: u32, roots: &[u32]) -> [u32; MOST_COEFFICIENTS]
-    requires { FieldModulus m p × (length roots.now ≤ mostRoots) × Coeffs m roots.now }
-    ensures { result ≡ padded mostCoefficients (build p roots.now) }
+    requires { FieldModulus m p × (length roots.now ≤ most_roots) × Coeffs m roots.now }
+    ensures { result ≡ padded most_coefficients (build p roots.now) }
 {
     let mut f: [u32; MOST_COEFFICIENTS] = [1, 0, 0, 0, 0];
     let mut i = roots.len();

@@ -2,15 +2,15 @@
 ghost use Rattle.std.specs.Prelude.{◌≡◌, ◌≤◌, length};
 ghost use Rattle.algebra.specs.Lists.{padded};
 ghost use Rattle.field.specs.Refusal.{refusal};
-ghost use Rattle.roots.specs.Limits.{mostCoefficients};
-ghost use Rattle.roots.specs.Calls.{allZero, equationTests};
+ghost use Rattle.roots.specs.Limits.{most_coefficients};
+ghost use Rattle.roots.specs.Calls.{all_zero, equation_tests};
 
 use crate::limits::MOST_COEFFICIENTS;
 use field::inner::refusal::{of_list, of_polynomial, wrong_count};
 use field::refused;
 
 fn all_zero(coefficients: &[u32]) -> bool
-    ensures { result ≡ allZero coefficients.now }
+    ensures { result ≡ all_zero coefficients.now }
 {
     for i in 0..coefficients.len() {
         if coefficients[i] != 0 {
@@ -22,7 +22,7 @@ fn all_zero(coefficients: &[u32]) -> bool
 
 // The number that the polynomial or the coefficients are turned down by; 0 where none applies.
 pub fn refusal(p: u32, coefficients: &[u32]) -> u32
-    ensures { result ≡ refusal (equationTests p coefficients.now) }
+    ensures { result ≡ refusal (equation_tests p coefficients.now) }
 {
     let refused = of_polynomial(p);
     if refused != 0 {
@@ -44,8 +44,8 @@ pub fn refusal(p: u32, coefficients: &[u32]) -> u32
 
 // Zeros above the coefficients given change nothing.
 pub fn five(coefficients: &[u32]) -> [u32; MOST_COEFFICIENTS]
-    requires { length coefficients.now ≤ mostCoefficients }
-    ensures { result ≡ padded mostCoefficients coefficients.now }
+    requires { length coefficients.now ≤ most_coefficients }
+    ensures { result ≡ padded most_coefficients coefficients.now }
 {
     let mut out: [u32; MOST_COEFFICIENTS] = [0; MOST_COEFFICIENTS];
     for i in 0..coefficients.len() {

@@ -2,12 +2,12 @@
 ghost use Rattle.std.specs.Prelude.{◌≡◌, [], ◌∷◌, ◌++◌, map, ◌^◌, ◌≤◌, ◌<◌, drop, replicate};
 ghost use Rattle.algebra.specs.Lists.{padded};
 ghost use Rattle.galois.specs.Polynomial.{Coeffs, AllZero, IsDegree, Root};
-ghost use Rattle.galois.specs.Roots.{rootsOf};
+ghost use Rattle.galois.specs.Roots.{roots_of};
 ghost use Rattle.galois.specs.Multiplicity.{multiplicity};
 ghost use Rattle.arithmetic.specs.Modulus.{FieldModulus};
-ghost use Rattle.roots.specs.Limits.{mostRoots};
+ghost use Rattle.roots.specs.Limits.{most_roots};
 ghost use Rattle.roots.specs.Equation.{Ready};
-ghost use Rattle.roots.specs.Sorting.{foundOf};
+ghost use Rattle.roots.specs.Sorting.{found_of};
 
 use crate::inner::polynomial::divided;
 use crate::inner::sorting::Found;
@@ -65,8 +65,8 @@ fn degree(f: [u32; MOST_COEFFICIENTS]) -> usize
 
 // 1 for each of so many roots.
 fn ones(count: usize) -> [u32; MOST_ROOTS]
-    requires { count ≤ mostRoots }
-    ensures { result ≡ padded mostRoots (replicate count 1) }
+    requires { count ≤ most_roots }
+    ensures { result ≡ padded most_roots (replicate count 1) }
 {
     let mut out: [u32; MOST_ROOTS] = [0; MOST_ROOTS];
     for i in 0..count {
@@ -76,8 +76,8 @@ fn ones(count: usize) -> [u32; MOST_ROOTS]
 }
 
 fn counted(p: u32, m: u32, f: [u32; MOST_COEFFICIENTS], found: Found) -> [u32; MOST_ROOTS]
-    requires { Ready m p f × (found ≡ foundOf (rootsOf m p f)) }
-    ensures* { λ r. ⌜ r ≡ padded mostRoots (map (λ r. multiplicity p r f) (rootsOf m p f)) ⌝ }
+    requires { Ready m p f × (found ≡ found_of (roots_of m p f)) }
+    ensures* { λ r. ⌜ r ≡ padded most_roots (map (λ r. multiplicity p r f) (roots_of m p f)) ⌝ }
 {
     let roots = found.roots;
     let mut out: [u32; MOST_ROOTS] = [0; MOST_ROOTS];
@@ -94,8 +94,8 @@ pub fn multiplicities(
     f: [u32; MOST_COEFFICIENTS],
     found: Found,
 ) -> [u32; MOST_ROOTS]
-    requires { Ready m p f × (found ≡ foundOf (rootsOf m p f)) }
-    ensures* { λ r. ⌜ r ≡ padded mostRoots (map (λ r. multiplicity p r f) (rootsOf m p f)) ⌝ }
+    requires { Ready m p f × (found ≡ found_of (roots_of m p f)) }
+    ensures* { λ r. ⌜ r ≡ padded most_roots (map (λ r. multiplicity p r f) (roots_of m p f)) ⌝ }
 {
     if found.count == degree(f) {
         return ones(found.count);

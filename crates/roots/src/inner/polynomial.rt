@@ -1,8 +1,8 @@
 // A polynomial of degree up to 4 by its five coefficients, constant first: its division by x + r, and its product with x + a.
 ghost use Rattle.std.specs.Prelude.{◌≡◌, ◌++◌, suc, ◌^◌, ◌<◌, take, drop};
-ghost use Rattle.galois.specs.Polynomial.{Coeffs, sums, withRoot};
+ghost use Rattle.galois.specs.Polynomial.{Coeffs, sums, with_root};
 ghost use Rattle.arithmetic.specs.Modulus.{FieldModulus};
-ghost use Rattle.roots.specs.Limits.{mostCoefficients};
+ghost use Rattle.roots.specs.Limits.{most_coefficients};
 
 use crate::limits::MOST_COEFFICIENTS;
 use binary::inner::modulo::product;
@@ -30,8 +30,8 @@ pub fn with_root(
     n: usize,
     a: u32,
 ) -> [u32; MOST_COEFFICIENTS]
-    requires { FieldModulus m p × Coeffs m f × (n < mostCoefficients) × (a < 2 ^ m) }
-    ensures { result ≡ withRoot p a (take n f) ++ drop (suc n) f }
+    requires { FieldModulus m p × Coeffs m f × (n < most_coefficients) × (a < 2 ^ m) }
+    ensures { result ≡ with_root p a (take n f) ++ drop (suc n) f }
 {
     let mut out = f;
     let mut below: u32 = 0;

@@ -1,8 +1,8 @@
 // The answer to an equation that has passed its tests.
 ghost use Rattle.std.specs.Prelude.{◌≡◌};
 ghost use Rattle.field.specs.Refusal.{refusal};
-ghost use Rattle.roots.specs.Answers.{ofRoots};
-ghost use Rattle.roots.specs.Calls.{equationTests, solveAnswer};
+ghost use Rattle.roots.specs.Answers.{of_roots};
+ghost use Rattle.roots.specs.Calls.{equation_tests, solve_answer};
 
 use crate::inner::equation::five;
 use crate::inner::multiplicity::multiplicities;
@@ -12,8 +12,8 @@ use crate::{RootCount, RootsAnswer};
 use field::inner::refusal::degree_of;
 
 pub fn solved(p: u32, coefficients: &[u32]) -> RootsAnswer
-    requires { refusal (equationTests p coefficients.now) ≡ 0 }
-    ensures { ofRoots result ≡ solveAnswer p coefficients.now }
+    requires { refusal (equation_tests p coefficients.now) ≡ 0 }
+    ensures { of_roots result ≡ solve_answer p coefficients.now }
 {
     let m = degree_of(p);
     let f = five(coefficients);

@@ -3,12 +3,12 @@
 ghost use Rattle.std.specs.Prelude.{◌≡◌, ◌≢◌, [], ◌∷◌, ◌++◌, map, ◌≤◌, ◌<◌, length, get_or, drop};
 ghost use Rattle.binary.specs.Xor.{◌⊕◌};
 ghost use Rattle.galois.specs.Polynomial.{Coeffs};
-ghost use Rattle.galois.specs.Roots.{rootsOf};
+ghost use Rattle.galois.specs.Roots.{roots_of};
 ghost use Rattle.arithmetic.specs.Modulus.{FieldModulus};
 ghost use Rattle.linear.specs.Limits.{places};
-ghost use Rattle.affine.specs.Equation.{solutionOf};
-ghost use Rattle.roots.specs.Limits.{mostRoots};
-ghost use Rattle.roots.specs.Equation.{Ready, Units, quarticOf, folded, fromInverse};
+ghost use Rattle.affine.specs.Equation.{solution_of};
+ghost use Rattle.roots.specs.Limits.{most_roots};
+ghost use Rattle.roots.specs.Equation.{Ready, Units, quartic_of, folded, from_inverse};
 ghost use Rattle.roots.specs.Unsorted.{entries, Fits, Holds, AreRoots};
 
 use crate::limits::{MOST_COEFFICIENTS, MOST_ROOTS};
@@ -32,8 +32,8 @@ const FOLDED: u32 = 2;
 
 // The solutions of c + l0·x + l1·x^2 + l2·x^4 = 0 as base and directions.
 fn space(p: u32, m: u32, c: u32, l0: u32, l1: u32, l2: u32) -> Solution
-    requires { FieldModulus m p × (m ≤ places) × Coeffs m (quarticOf c l0 l1 l2) }
-    ensures { result ≡ solutionOf p (folded m c l0 l1 l2) }
+    requires { FieldModulus m p × (m ≤ places) × Coeffs m (quartic_of c l0 l1 l2) }
+    ensures { result ≡ solution_of p (folded m c l0 l1 l2) }
 {
     if m == FOLDED {
         let short = [c, l0 ^ l2, l1];
@@ -45,8 +45,8 @@ fn space(p: u32, m: u32, c: u32, l0: u32, l1: u32, l2: u32) -> Solution
 
 // The roots of c + l0·x + l1·x^2 + l2·x^4, not all zero: there are at most four, so at most two directions.
 fn solutions(p: u32, m: u32, c: u32, l0: u32, l1: u32, l2: u32) -> Unsorted
-    requires { Ready m p (quarticOf c l0 l1 l2) }
-    ensures { Holds (rootsOf m p (quarticOf c l0 l1 l2)) result }
+    requires { Ready m p (quartic_of c l0 l1 l2) }
+    ensures { Holds (roots_of m p (quartic_of c l0 l1 l2)) result }
 {
     let s = space(p, m, c, l0, l1, l2);
     let directions = s.directions;
@@ -117,7 +117,7 @@ fn of_cubic(p: u32, m: u32, c0: u32, c1: u32, c2: u32, c3: u32) -> Unsorted
 // s + 1/y for each of the numbers y.
 fn moved_back(p: u32, m: u32, s: u32, ys: Unsorted) -> Unsorted
     requires { FieldModulus m p × Fits ys × Units m (entries ys) }
-    ensures { Holds (map (fromInverse m p s) (entries ys)) result }
+    ensures { Holds (map (from_inverse m p s) (entries ys)) result }
 {
     let count = ys.count;
     let mut list = ys.list;
@@ -130,7 +130,7 @@ fn moved_back(p: u32, m: u32, s: u32, ys: Unsorted) -> Unsorted
 
 // x after the others.
 fn with_last(xs: Unsorted, x: u32) -> Unsorted
-    requires { Fits xs × (xs.count < mostRoots) }
+    requires { Fits xs × (xs.count < most_roots) }
     ensures { Holds (entries xs ++ x ∷ []) result }
 {
     let count = xs.count;

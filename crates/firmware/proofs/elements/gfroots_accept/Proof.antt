@@ -1,8 +1,8 @@
 -- `gfroots_accept` meets its contract. Assumes nothing.
 use mathlib.Core.Path.{sym, ap, ◌∙◌}
-use Rattle.field.specs.Answers.{ofDegree}
+use Rattle.field.specs.Answers.{of_degree}
 use Rattle.firmware.proofs.Room.{one_down, one_same}
-use Rattle.firmware.proofs.Refusing.{accept-refuses}
+use Rattle.firmware.proofs.Refusing.{accept_refuses}
 use borrow.Author.Rules.{rules}
 use Rattle.firmware.proofs.elements.gfroots_accept.Statement.{statement}
 use Rattle.firmware.proofs.elements.gfroots_accept.Tie as tie
@@ -22,7 +22,7 @@ put-requires c κs = search rules
 returns : tie.Need-returns
 returns c =
     let s = c.before.before.before.before.before in
-    one_down _ s.args.degree.now _ (sym (ap ofDegree c.before.answer.given.1) ∙ c.before.before.before.accept.ensures) (accept-refuses s.args.p)
+    one_down _ s.args.degree.now _ (sym (ap of_degree c.before.answer.given.1) ∙ c.before.before.before.accept.ensures) (accept_refuses s.args.p)
 
 same_length : tie.Need-same-length
 same_length c = search rules
@@ -30,7 +30,7 @@ same_length c = search rules
 returns-2 : tie.Need-returns-2
 returns-2 c =
     let s = c.before.before.before.before.before in
-    one_same _ _ _ _ _ (sym (ap ofDegree s.answer2.given.1) ∙ s.before.before.accept.ensures) c.before.before.put.ensures
+    one_same _ _ _ _ _ (sym (ap of_degree s.answer2.given.1) ∙ s.before.before.accept.ensures) c.before.before.put.ensures
 
 pub gfroots-accept-spec : {M : Type 1} → statement M
 gfroots-accept-spec =

@@ -2,7 +2,7 @@
 use mathlib.Core.Path.{sym, subst}
 use Rattle.firmware.specs.Lent.{Refuses}
 use Rattle.firmware.proofs.Room.{one_same}
-use Rattle.firmware.proofs.Refusing.{element-refuses}
+use Rattle.firmware.proofs.Refusing.{element_refuses}
 use borrow.Author.Rules.{rules}
 use Rattle.firmware.proofs.elements.gfroots_element_of_number.Statement.{statement}
 use Rattle.firmware.proofs.elements.gfroots_element_of_number.Tie as tie
@@ -12,7 +12,7 @@ element-of-number-requires c κs = search rules
 
 put-element-requires : tie.Need-put-element-requires
 put-element-requires c κs =
-    subst Refuses (sym c.before.element-of-number.ensures) (element-refuses _ _)
+    subst Refuses (sym c.before.element-of-number.ensures) (element_refuses _ _)
 
 same_length : tie.Need-same-length
 same_length c = search rules

@@ -1,8 +1,8 @@
 -- `gfroots_house_polynomial` meets its contract. Assumes nothing.
 use mathlib.Core.Path.{sym, ap, ◌∙◌}
-use Rattle.field.specs.Answers.{ofPolynomial}
+use Rattle.field.specs.Answers.{of_polynomial}
 use Rattle.firmware.proofs.Room.{one_down, one_same}
-use Rattle.firmware.proofs.Refusing.{house-refuses}
+use Rattle.firmware.proofs.Refusing.{house_refuses}
 use borrow.Author.Rules.{rules}
 use Rattle.firmware.proofs.elements.gfroots_house_polynomial.Statement.{statement}
 use Rattle.firmware.proofs.elements.gfroots_house_polynomial.Tie as tie
@@ -22,7 +22,7 @@ put-requires c κs = search rules
 returns : tie.Need-returns
 returns c =
     let s = c.before.before.before.before.before in
-    one_down _ s.args.polynomial.now _ (sym (ap ofPolynomial c.before.answer.given.1) ∙ c.before.before.before.house-polynomial.ensures) (house-refuses s.args.degree)
+    one_down _ s.args.polynomial.now _ (sym (ap of_polynomial c.before.answer.given.1) ∙ c.before.before.before.house-polynomial.ensures) (house_refuses s.args.degree)
 
 same_length : tie.Need-same-length
 same_length c = search rules
@@ -30,7 +30,7 @@ same_length c = search rules
 returns-2 : tie.Need-returns-2
 returns-2 c =
     let s = c.before.before.before.before.before in
-    one_same _ _ _ _ _ (sym (ap ofPolynomial s.answer2.given.1) ∙ s.before.before.house-polynomial.ensures) c.before.before.put.ensures
+    one_same _ _ _ _ _ (sym (ap of_polynomial s.answer2.given.1) ∙ s.before.before.house-polynomial.ensures) c.before.before.put.ensures
 
 pub gfroots-house-polynomial-spec : {M : Type 1} → statement M
 gfroots-house-polynomial-spec =

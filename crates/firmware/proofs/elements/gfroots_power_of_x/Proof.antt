@@ -3,7 +3,7 @@ use mathlib.Core.Path.{sym, subst}
 use mir.Facts.{to_z-of_z}
 use Rattle.firmware.specs.Lent.{Refuses}
 use Rattle.firmware.proofs.Room.{one_same}
-use Rattle.firmware.proofs.Refusing.{power-of-x-refuses}
+use Rattle.firmware.proofs.Refusing.{power_of_x_refuses}
 use borrow.Author.Rules.{rules}
 use Rattle.firmware.proofs.elements.gfroots_power_of_x.Statement.{statement}
 use Rattle.firmware.proofs.elements.gfroots_power_of_x.Tie as tie
@@ -14,7 +14,7 @@ power-of-x-requires c κs = search rules
 put-element-requires : tie.Need-put-element-requires
 put-element-requires c κs =
     let s = c.before.before.before in
-    subst Refuses (sym (rw (to_z-of_z s.ranges.exponent) at c.before.power-of-x.ensures)) (power-of-x-refuses _ _)
+    subst Refuses (sym (rw (to_z-of_z s.ranges.exponent) at c.before.power-of-x.ensures)) (power_of_x_refuses _ _)
 
 same_length : tie.Need-same-length
 same_length c = search rules

@@ -2,7 +2,7 @@
 use mathlib.Core.Path.{sym, subst}
 use Rattle.firmware.specs.Lent.{Refuses}
 use Rattle.firmware.proofs.Room.{one_same}
-use Rattle.firmware.proofs.Refusing.{product-refuses}
+use Rattle.firmware.proofs.Refusing.{product_refuses}
 use borrow.Author.Rules.{rules}
 use Rattle.firmware.proofs.elements.gfroots_product.Statement.{statement}
 use Rattle.firmware.proofs.elements.gfroots_product.Tie as tie
@@ -12,7 +12,7 @@ product-requires c κs = search rules
 
 put-element-requires : tie.Need-put-element-requires
 put-element-requires c κs =
-    subst Refuses (sym c.before.product.ensures) (product-refuses _ _ _)
+    subst Refuses (sym c.before.product.ensures) (product_refuses _ _ _)
 
 same_length : tie.Need-same-length
 same_length c = search rules

@@ -2,7 +2,7 @@
 use mathlib.Core.Path.{sym, subst}
 use Rattle.firmware.specs.Lent.{Refuses}
 use Rattle.firmware.proofs.Room.{one_same}
-use Rattle.firmware.proofs.Refusing.{quotient-refuses}
+use Rattle.firmware.proofs.Refusing.{quotient_refuses}
 use borrow.Author.Rules.{rules}
 use Rattle.firmware.proofs.elements.gfroots_quotient.Statement.{statement}
 use Rattle.firmware.proofs.elements.gfroots_quotient.Tie as tie
@@ -12,7 +12,7 @@ quotient-requires c κs = search rules
 
 put-element-requires : tie.Need-put-element-requires
 put-element-requires c κs =
-    subst Refuses (sym c.before.quotient.ensures) (quotient-refuses _ _ _)
+    subst Refuses (sym c.before.quotient.ensures) (quotient_refuses _ _ _)
 
 same_length : tie.Need-same-length
 same_length c = search rules

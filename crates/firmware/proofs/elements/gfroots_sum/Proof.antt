@@ -2,7 +2,7 @@
 use mathlib.Core.Path.{sym, subst}
 use Rattle.firmware.specs.Lent.{Refuses}
 use Rattle.firmware.proofs.Room.{one_same}
-use Rattle.firmware.proofs.Refusing.{sum-refuses}
+use Rattle.firmware.proofs.Refusing.{sum_refuses}
 use borrow.Author.Rules.{rules}
 use Rattle.firmware.proofs.elements.gfroots_sum.Statement.{statement}
 use Rattle.firmware.proofs.elements.gfroots_sum.Tie as tie
@@ -12,7 +12,7 @@ sum-requires c κs = search rules
 
 put-element-requires : tie.Need-put-element-requires
 put-element-requires c κs =
-    subst Refuses (sym c.before.sum.ensures) (sum-refuses _ _ _)
+    subst Refuses (sym c.before.sum.ensures) (sum_refuses _ _ _)
 
 same_length : tie.Need-same-length
 same_length c = search rules

@@ -1,9 +1,9 @@
 -- `gfroots_solve` meets its contract. Assumes nothing.
 use mathlib.Core.Path.{sym, ap, ◌∙◌}
-use Rattle.roots.specs.Answers.{ofRootCount}
+use Rattle.roots.specs.Answers.{of_root_count}
 use Rattle.roots.specs.Calls.{Answer}
-use Rattle.firmware.proofs.Refusing.{solve-refuses}
-use Rattle.firmware.proofs.Answers.{roots-down, roots-found}
+use Rattle.firmware.proofs.Refusing.{solve_refuses}
+use Rattle.firmware.proofs.Answers.{roots_down, roots_found}
 use borrow.Author.Rules.{rules}
 use Rattle.firmware.proofs.equations.gfroots_solve.Statement.{statement}
 use Rattle.firmware.proofs.equations.gfroots_solve.Tie as tie
@@ -23,8 +23,8 @@ put-roots-requires c κs = search rules
 returns : tie.Need-returns
 returns c =
     let a = c.before.before.before.before.before.before.before.before.before.before.args in
-    roots-down _ _ _ a.count.now a.roots.now a.multiplicities.now
-    (sym (ap ofRootCount c.before.said.given.1) ∙ ap (λ (q : Answer). q.says) c.before.before.before.before.before.solve.ensures) (solve-refuses a.p a.coefficients.now)
+    roots_down _ _ _ a.count.now a.roots.now a.multiplicities.now
+    (sym (ap of_root_count c.before.said.given.1) ∙ ap (λ (q : Answer). q.says) c.before.before.before.before.before.solve.ensures) (solve_refuses a.p a.coefficients.now)
 
 same_length : tie.Need-same-length
 same_length c = search rules
@@ -37,7 +37,7 @@ same-length-3 c = search rules
 
 returns-2 : tie.Need-returns-2
 returns-2 c =
-    roots-found c.before.before.before.before.before.before.before.before.before.before.before.before.before.before.before.solve.result _ _ _ _ _ _ _ _ _ _ c.before.before.before.before.before.before.before.before.before.before.before.said2.given.1 c.before.before.before.before.before.before.before.before.before.before.before.before.before.before.before.solve.ensures c.before.before.before.before.before.before.put-roots.ensures
+    roots_found c.before.before.before.before.before.before.before.before.before.before.before.before.before.before.before.solve.result _ _ _ _ _ _ _ _ _ _ c.before.before.before.before.before.before.before.before.before.before.before.said2.given.1 c.before.before.before.before.before.before.before.before.before.before.before.before.before.before.before.solve.ensures c.before.before.before.before.before.before.put-roots.ensures
 
 pub gfroots-solve-spec : {M : Type 1} → statement M
 gfroots-solve-spec =

@@ -2,9 +2,9 @@
 use mathlib.Core.Path.{◌≡◌, refl, sym, ap}
 use native.Mathlib.Omega.{arith}
 use lib.ListN.{length}
-use Rattle.roots.specs.Limits.{mostCoefficients}
-use Rattle.firmware.specs.Lent.{roomNumber}
-use Rattle.firmware.proofs.Room.{fits-long, fits-short}
+use Rattle.roots.specs.Limits.{most_coefficients}
+use Rattle.firmware.specs.Lent.{room_number}
+use Rattle.firmware.proofs.Room.{fits_long, fits_short}
 use borrow.Author.Rules.{rules}
 use Rattle.firmware.proofs.equations.put_coefficients.Statement.{statement}
 use Rattle.firmware.proofs.equations.put_coefficients.Tie as tie
@@ -12,7 +12,7 @@ use Rattle.firmware.proofs.equations.put_coefficients.Tie as tie
 returns : tie.Need-returns
 returns c =
     let a = c.before.before.args in
-    (sym (ap roomNumber (fits-short mostCoefficients a.coefficients.now c.if1.true)), refl)
+    (sym (ap room_number (fits_short most_coefficients a.coefficients.now c.if1.true)), refl)
 
 slice-aggregate-put-all : tie.Need-slice-aggregate-put-all
 slice-aggregate-put-all c = search rules
@@ -20,7 +20,7 @@ slice-aggregate-put-all c = search rules
 put-all-requires : tie.Need-put-all-requires
 put-all-requires c κs =
     let s = c.before.before.before.before in
-    let five : length s.args.t1 ≡ mostCoefficients = search rules in
+    let five : length s.args.t1 ≡ most_coefficients = search rules in
     omega (arith, five, c.before.before.if1.false)
 
 same_length : tie.Need-same-length
@@ -29,7 +29,7 @@ same_length c = search rules
 returns-2 : tie.Need-returns-2
 returns-2 c =
     let s = c.before.before.before.before.before.before.before in
-    (sym (ap roomNumber (fits-long mostCoefficients s.args.coefficients.now c.before.before.before.before.before.if1.false)), c.before.before.put_all.ensures)
+    (sym (ap room_number (fits_long most_coefficients s.args.coefficients.now c.before.before.before.before.before.if1.false)), c.before.before.put_all.ensures)
 
 pub put-coefficients-spec : {M : Type 1} → statement M
 put-coefficients-spec =

@@ -2,9 +2,9 @@
 use mathlib.Core.Path.{◌≡◌, refl, sym, ap, ◌∙◌}
 use native.Mathlib.Omega.{arith}
 use lib.ListN.{length}
-use Rattle.roots.specs.Limits.{mostRoots}
-use Rattle.firmware.specs.Lent.{fits, roomNumber}
-use Rattle.firmware.proofs.Room.{fits-long, fits-short, no-first, no_second, by-second, kept, put-done}
+use Rattle.roots.specs.Limits.{most_roots}
+use Rattle.firmware.specs.Lent.{fits, room_number}
+use Rattle.firmware.proofs.Room.{fits_long, fits_short, no_first, no_second, by_second, kept, put_done}
 use borrow.Author.Rules.{rules}
 use Rattle.firmware.proofs.equations.put_roots.Statement.{statement}
 use Rattle.firmware.proofs.equations.put_roots.Tie as tie
@@ -12,12 +12,12 @@ use Rattle.firmware.proofs.equations.put_roots.Tie as tie
 returns : tie.Need-returns
 returns c =
     let a = c.before.before.before.before.args in
-    (sym (ap roomNumber (no-first _ _ (fits-short mostRoots a.roots.now (omega (arith, c.if1.true))))), (refl, (refl, refl)))
+    (sym (ap room_number (no_first _ _ (fits_short most_roots a.roots.now (omega (arith, c.if1.true))))), (refl, (refl, refl)))
 
 returns-2 : tie.Need-returns-2
 returns-2 c =
     let a = c.before.before.before.before.before.args in
-    (sym (ap roomNumber (no_second (fits mostRoots a.roots.now) _ (no-first _ _ (fits-short mostRoots a.multiplicities.now (omega (arith, c.if2.true)))))), (refl, (refl, refl)))
+    (sym (ap room_number (no_second (fits most_roots a.roots.now) _ (no_first _ _ (fits_short most_roots a.multiplicities.now (omega (arith, c.if2.true)))))), (refl, (refl, refl)))
 
 put-requires : tie.Need-put-requires
 put-requires c κs = search rules
@@ -28,10 +28,10 @@ same_length c = search rules
 returns-3 : tie.Need-returns-3
 returns-3 c =
     let a = c.before.before.before.before.before.before.before.before.before.before.args in
-    let first = by-second _ _ (fits-long mostRoots a.roots.now c.before.before.before.before.before.before.if1.false) in
-    let second = by-second _ (fits 1 a.count.now) (fits-long mostRoots a.multiplicities.now c.before.before.before.before.before.if2.false) in
+    let first = by_second _ _ (fits_long most_roots a.roots.now c.before.before.before.before.before.before.if1.false) in
+    let second = by_second _ (fits 1 a.count.now) (fits_long most_roots a.multiplicities.now c.before.before.before.before.before.if2.false) in
     let put = c.before.before.before.put.ensures in
-    (put.0 ∙ sym (ap roomNumber (first ∙ second)), (put.1, (kept _ _ _ c.if3.true, kept _ _ _ c.if3.true)))
+    (put.0 ∙ sym (ap room_number (first ∙ second)), (put.1, (kept _ _ _ c.if3.true, kept _ _ _ c.if3.true)))
 
 slice-aggregate-put-all : tie.Need-slice-aggregate-put-all
 slice-aggregate-put-all c = search rules
@@ -39,7 +39,7 @@ slice-aggregate-put-all c = search rules
 put-all-requires : tie.Need-put-all-requires
 put-all-requires c κs =
     let s = c.before.before.before.before.before.before.before.before.before.before.before.before in
-    let four : length s.args.t2 ≡ mostRoots = search rules in
+    let four : length s.args.t2 ≡ most_roots = search rules in
     omega (arith, four, c.before.before.before.before.before.before.before.before.if1.false)
 
 slice-aggregate-put-all-2 : tie.Need-slice-aggregate-put-all-2
@@ -48,7 +48,7 @@ slice-aggregate-put-all-2 c = search rules
 put-all-requires-2 : tie.Need-put-all-requires-2
 put-all-requires-2 c κs =
     let s = c.before.before.before.before.before.before.before.before.before.before.before.before.before.before.before.before.before in
-    let four : length s.args.t3 ≡ mostRoots = search rules in
+    let four : length s.args.t3 ≡ most_roots = search rules in
     omega (arith, four, c.before.before.before.before.before.before.before.before.before.before.before.before.if2.false)
 
 same-length-2 : tie.Need-same-length-2
@@ -63,12 +63,12 @@ same-length-4 c = search rules
 returns-4 : tie.Need-returns-4
 returns-4 c =
     let a = c.before.before.before.before.before.before.before.before.before.before.before.before.before.before.before.before.before.before.before.before.args in
-    let first = by-second _ _ (fits-long mostRoots a.roots.now c.before.before.before.before.before.before.before.before.before.before.before.before.before.before.before.before.if1.false) in
-    let second = by-second _ (fits 1 a.count.now) (fits-long mostRoots a.multiplicities.now c.before.before.before.before.before.before.before.before.before.before.before.before.before.before.before.if2.false) in
+    let first = by_second _ _ (fits_long most_roots a.roots.now c.before.before.before.before.before.before.before.before.before.before.before.before.before.before.before.before.if1.false) in
+    let second = by_second _ (fits 1 a.count.now) (fits_long most_roots a.multiplicities.now c.before.before.before.before.before.before.before.before.before.before.before.before.before.before.before.if2.false) in
     let put = c.before.before.before.before.before.before.before.before.before.before.before.before.before.put.ensures in
     let none = c.before.before.before.before.before.before.before.before.before.before.if3.false in (
-      sym none ∙ put.0 ∙ sym (ap roomNumber (first ∙ second)),
-      (put-done _ _ _ _ none put.1, (c.before.before.before.before.before.before.before.put_all.ensures, c.before.before.put-all2.ensures)),
+      sym none ∙ put.0 ∙ sym (ap room_number (first ∙ second)),
+      (put_done _ _ _ _ none put.1, (c.before.before.before.before.before.before.before.put_all.ensures, c.before.before.put-all2.ensures)),
     )
 
 pub put-roots-spec : {M : Type 1} → statement M

@@ -5,11 +5,11 @@ use Prim.Native.Nat.{ℕ}
 use native.Mathlib.Omega.{arith}
 use lib.ListN.{replicate}
 use lib.Seq.{length-take-le}
-use Rattle.frames.specs.Limits.{answerRoom}
-use Rattle.frames.specs.Answer.{answerText}
-use Rattle.firmware.specs.Lent.{fits, roomNumber, after}
-use Rattle.firmware.proofs.Room.{fits-long, fits-short, no-first, by-second, kept, put-done}
-use Rattle.firmware.proofs.Texts.{text-copied}
+use Rattle.frames.specs.Limits.{answer_room}
+use Rattle.frames.specs.Answer.{answer_text}
+use Rattle.firmware.specs.Lent.{fits, room_number, after}
+use Rattle.firmware.proofs.Room.{fits_long, fits_short, no_first, by_second, kept, put_done}
+use Rattle.firmware.proofs.Texts.{text_copied}
 use borrow.Author.Rules.{rules}
 use Rattle.firmware.proofs.lines.gfroots_answer_line.Statement.{statement}
 use Rattle.firmware.proofs.lines.gfroots_answer_line.Tie as tie
@@ -17,7 +17,7 @@ use Rattle.firmware.proofs.lines.gfroots_answer_line.Tie as tie
 returns : tie.Need-returns
 returns c =
     let a = c.before.before.before.before.args in
-    (sym (ap roomNumber (no-first _ _ (fits-short answerRoom a.answer.now c.if1.true))), (refl, refl))
+    (sym (ap room_number (no_first _ _ (fits_short answer_room a.answer.now c.if1.true))), (refl, refl))
 
 answer-line-requires : tie.Need-answer-line-requires
 answer-line-requires c κs = search rules
@@ -38,8 +38,8 @@ returns-2 c =
     let a = c.before.before.before.before.before.before.before.before.before.before.before.args in
     let text = c.before.before.before.before.before.answer-line.ensures in
     let put = c.before.before.before.put.ensures in
-    let room = by-second _ (fits 1 a.count.now) (fits-long answerRoom a.answer.now c.before.before.before.before.before.before.before.if1.false) in (
-      put.0 ∙ sym (ap roomNumber room),
+    let room = by_second _ (fits 1 a.count.now) (fits_long answer_room a.answer.now c.before.before.before.before.before.before.before.if1.false) in (
+      put.0 ∙ sym (ap room_number room),
       (put.1 ∙ ap (λ (n : ℕ). after c.before.before.before.put.result (n ∷ []) a.count.now) text.0, kept _ _ _ c.if2.true),
     )
 
@@ -67,11 +67,11 @@ returns-3 c =
     let text = c.before.before.before.before.before.before.before.before.before.before.answer-line.ensures in
     let put = c.before.before.before.before.before.before.before.before.put.ensures in
     let none = c.before.before.before.before.before.if2.false in
-    let room = by-second _ (fits 1 a.count.now) (fits-long answerRoom a.answer.now c.before.before.before.before.before.before.before.before.before.before.before.before.if1.false) in (
-      sym none ∙ put.0 ∙ sym (ap roomNumber room),
+    let room = by_second _ (fits 1 a.count.now) (fits_long answer_room a.answer.now c.before.before.before.before.before.before.before.before.before.before.before.before.if1.false) in (
+      sym none ∙ put.0 ∙ sym (ap room_number room),
       (
-        put-done _ _ _ _ none (put.1 ∙ ap (λ (n : ℕ). after c.before.before.before.before.before.before.before.before.put.result (n ∷ []) a.count.now) text.0),
-        text-copied _ (answerText a.line.now) (replicate answerRoom 0) _ text.0 text.1.0 text.1.1.1.0 _ _ c.before.before.copy.ensures.1,
+        put_done _ _ _ _ none (put.1 ∙ ap (λ (n : ℕ). after c.before.before.before.before.before.before.before.before.put.result (n ∷ []) a.count.now) text.0),
+        text_copied _ (answer_text a.line.now) (replicate answer_room 0) _ text.0 text.1.0 text.1.1.1.0 _ _ c.before.before.copy.ensures.1,
       ),
     )
 

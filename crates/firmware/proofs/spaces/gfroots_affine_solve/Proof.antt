@@ -1,9 +1,9 @@
 -- `gfroots_affine_solve` meets its contract. Assumes nothing.
 use mathlib.Core.Path.{sym, ap, ◌∙◌}
-use Rattle.affine.specs.Answers.{ofSpace}
+use Rattle.affine.specs.Answers.{of_space}
 use Rattle.affine.specs.Calls.{Answer}
-use Rattle.firmware.proofs.Refusing.{affine-refuses}
-use Rattle.firmware.proofs.Answers.{space-down, space-found}
+use Rattle.firmware.proofs.Refusing.{affine_refuses}
+use Rattle.firmware.proofs.Answers.{space_down, space_found}
 use borrow.Author.Rules.{rules}
 use Rattle.firmware.proofs.spaces.gfroots_affine_solve.Statement.{statement}
 use Rattle.firmware.proofs.spaces.gfroots_affine_solve.Tie as tie
@@ -29,8 +29,8 @@ put-space-requires-2 c κs = search rules
 returns : tie.Need-returns
 returns c =
     let a = c.before.before.before.before.before.before.before.before.before.args in
-    space-down _ _ _ a.space.now a.directions.now
-    (sym (ap ofSpace c.before.said.given.1) ∙ ap (λ (q : Answer). q.says) c.before.before.before.before.before.solve.ensures) (affine-refuses a.p a.coefficients.now)
+    space_down _ _ _ a.space.now a.directions.now
+    (sym (ap of_space c.before.said.given.1) ∙ ap (λ (q : Answer). q.says) c.before.before.before.before.before.solve.ensures) (affine_refuses a.p a.coefficients.now)
 
 same_length : tie.Need-same-length
 same_length c = search rules
@@ -40,7 +40,7 @@ same-length-2 c = search rules
 
 returns-2 : tie.Need-returns-2
 returns-2 c =
-    space-found c.before.before.before.before.before.before.before.before.before.before.before.solve.result _ _ _ _ _ _ _ _ c.before.before.before.before.before.before.before.enum_told.given.1 c.before.before.before.before.before.before.before.before.before.before.before.solve.ensures c.before.before.before.before.put-space.ensures
+    space_found c.before.before.before.before.before.before.before.before.before.before.before.solve.result _ _ _ _ _ _ _ _ c.before.before.before.before.before.before.before.enum_told.given.1 c.before.before.before.before.before.before.before.before.before.before.before.solve.ensures c.before.before.before.before.put-space.ensures
 
 same-length-3 : tie.Need-same-length-3
 same-length-3 c = search rules
@@ -50,7 +50,7 @@ same-length-4 c = search rules
 
 returns-3 : tie.Need-returns-3
 returns-3 c =
-    space-found c.before.before.before.before.before.before.before.before.before.before.before.before.solve.result _ _ _ _ _ _ _ _ c.before.before.before.before.before.before.before.before.said2.given.1 c.before.before.before.before.before.before.before.before.before.before.before.before.solve.ensures c.before.before.before.before.put-space2.ensures
+    space_found c.before.before.before.before.before.before.before.before.before.before.before.before.solve.result _ _ _ _ _ _ _ _ c.before.before.before.before.before.before.before.before.said2.given.1 c.before.before.before.before.before.before.before.before.before.before.before.before.solve.ensures c.before.before.before.before.put-space2.ensures
 
 pub gfroots-affine-solve-spec : {M : Type 1} → statement M
 gfroots-affine-solve-spec =

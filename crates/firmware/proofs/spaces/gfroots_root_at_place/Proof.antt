@@ -2,7 +2,7 @@
 use mathlib.Core.Path.{sym, subst}
 use Rattle.firmware.specs.Lent.{Refuses}
 use Rattle.firmware.proofs.Room.{one_same}
-use Rattle.firmware.proofs.Refusing.{place-refuses}
+use Rattle.firmware.proofs.Refusing.{place_refuses}
 use borrow.Author.Rules.{rules}
 use Rattle.firmware.proofs.spaces.gfroots_root_at_place.Statement.{statement}
 use Rattle.firmware.proofs.spaces.gfroots_root_at_place.Tie as tie
@@ -13,7 +13,7 @@ root-at-place-requires c κs = search rules
 put-element-requires : tie.Need-put-element-requires
 put-element-requires c κs =
     let a = c.before.before.before.before.args in
-    subst Refuses (sym c.before.root-at-place.ensures) (place-refuses a.p a.coefficients.now _)
+    subst Refuses (sym c.before.root-at-place.ensures) (place_refuses a.p a.coefficients.now _)
 
 same_length : tie.Need-same-length
 same_length c = search rules

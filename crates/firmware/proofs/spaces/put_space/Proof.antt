@@ -3,8 +3,8 @@ use mathlib.Core.Path.{◌≡◌, refl, sym, ap, ◌∙◌}
 use native.Mathlib.Omega.{arith}
 use lib.ListN.{length}
 use Rattle.linear.specs.Limits.{places}
-use Rattle.firmware.specs.Lent.{fits, roomNumber}
-use Rattle.firmware.proofs.Room.{fits-long, fits-short, no-first, no_second, by-second}
+use Rattle.firmware.specs.Lent.{fits, room_number}
+use Rattle.firmware.proofs.Room.{fits_long, fits_short, no_first, no_second, by_second}
 use borrow.Author.Rules.{rules}
 use Rattle.firmware.proofs.spaces.put_space.Statement.{statement}
 use Rattle.firmware.proofs.spaces.put_space.Tie as tie
@@ -12,12 +12,12 @@ use Rattle.firmware.proofs.spaces.put_space.Tie as tie
 returns : tie.Need-returns
 returns c =
     let a = c.before.before.before.args in
-    (sym (ap roomNumber (no-first _ _ (fits-short 3 a.space.now c.if1.true))), (refl, refl))
+    (sym (ap room_number (no_first _ _ (fits_short 3 a.space.now c.if1.true))), (refl, refl))
 
 returns-2 : tie.Need-returns-2
 returns-2 c =
     let a = c.before.before.before.before.args in
-    (sym (ap roomNumber (no_second (fits 3 a.space.now) _ (fits-short places a.directions.now c.if2.true))), (refl, refl))
+    (sym (ap room_number (no_second (fits 3 a.space.now) _ (fits_short places a.directions.now c.if2.true))), (refl, refl))
 
 slice-aggregate-put-all : tie.Need-slice-aggregate-put-all
 slice-aggregate-put-all c = search rules
@@ -43,9 +43,9 @@ same-length-2 c = search rules
 returns-3 : tie.Need-returns-3
 returns-3 c =
     let a = c.before.before.before.before.before.before.before.before.before.before.before.before.before.before.args in
-    let first = by-second _ (fits places a.directions.now) (fits-long 3 a.space.now c.before.before.before.before.before.before.before.before.before.before.before.if1.false) in
-    let second = fits-long places a.directions.now c.before.before.before.before.before.before.before.before.before.before.if2.false in
-    (sym (ap roomNumber (first ∙ second)), (c.before.before.before.before.before.before.before.put_all.ensures, c.before.before.put-all2.ensures))
+    let first = by_second _ (fits places a.directions.now) (fits_long 3 a.space.now c.before.before.before.before.before.before.before.before.before.before.before.if1.false) in
+    let second = fits_long places a.directions.now c.before.before.before.before.before.before.before.before.before.before.if2.false in
+    (sym (ap room_number (first ∙ second)), (c.before.before.before.before.before.before.before.put_all.ensures, c.before.before.put-all2.ensures))
 
 pub put-space-spec : {M : Type 1} → statement M
 put-space-spec =

@@ -2,7 +2,7 @@
 use mathlib.Core.Path.{sym, ap, ◌∙◌}
 use mathlib.Core.Bool.{false}
 use Rattle.field.specs.Refusal.{Outcome}
-use Rattle.affine.specs.Answers.{ofSpace}
+use Rattle.affine.specs.Answers.{of_space}
 use Rattle.affine.specs.Calls.{Space, Answer}
 use Rattle.firmware.specs.Lent.{returned}
 use borrow.Author.Rules.{rules}
@@ -23,15 +23,15 @@ enum-known-said-2 c = search rules
 
 returns : tie.Need-returns
 returns c =
-    ap (λ (o : Outcome Space). returned o false) (sym (ap ofSpace c.before.said.given.1) ∙ ap (λ (q : Answer). q.says) c.before.before.before.solve.ensures)
+    ap (λ (o : Outcome Space). returned o false) (sym (ap of_space c.before.said.given.1) ∙ ap (λ (q : Answer). q.says) c.before.before.before.solve.ensures)
 
 returns-2 : tie.Need-returns-2
 returns-2 c =
-    ap (λ (o : Outcome Space). returned o false) (sym (ap ofSpace c.enum_told.given.1) ∙ ap (λ (q : Answer). q.says) c.before.before.solve.ensures)
+    ap (λ (o : Outcome Space). returned o false) (sym (ap of_space c.enum_told.given.1) ∙ ap (λ (q : Answer). q.says) c.before.before.solve.ensures)
 
 returns-3 : tie.Need-returns-3
 returns-3 c =
-    ap (λ (o : Outcome Space). returned o false) (sym (ap ofSpace c.before.said2.given.1) ∙ ap (λ (q : Answer). q.says) c.before.before.before.solve.ensures)
+    ap (λ (o : Outcome Space). returned o false) (sym (ap of_space c.before.said2.given.1) ∙ ap (λ (q : Answer). q.says) c.before.before.before.solve.ensures)
 
 pub without-count-spec : {M : Type 1} → statement M
 without-count-spec =

@@ -5,7 +5,7 @@ use native.Mathlib.Omega.{arith}
 use borrow.Author.Rules.{rules}
 use lib.ListN.{length, take}
 use lib.Seq.{sets, take_all}
-use Rattle.frames.proofs.Keeping.{kept-turn}
+use Rattle.frames.proofs.Keeping.{kept_turn}
 use Rattle.gfroots.proofs.output.copy.Statement.{statement}
 use Rattle.gfroots.proofs.output.copy.Tie as tie
 
@@ -36,7 +36,7 @@ loop-less c = search rules
 loop-again : tie.Need-loop-preserved invariant-loop decreases-loop
 loop-again c =
     let l = c.before.before.loop in
-    (omega arith, kept-turn _ _ _ l.i (omega arith) l.invariant.1)
+    (omega arith, kept_turn _ _ _ l.i (omega arith) l.invariant.1)
 
 returns : tie.Need-returns invariant-loop decreases-loop
 returns c =

@@ -2,7 +2,7 @@
 use mathlib.Core.Path.{◌∙◌}
 use native.Mathlib.Omega.{arith}
 use borrow.Author.Rules.{rules}
-use Rattle.gfroots.proofs.Collected.{keeps-place, from_front}
+use Rattle.gfroots.proofs.Collected.{keeps_place, from_front}
 use Rattle.gfroots.proofs.output.with_room.Statement.{statement}
 use Rattle.gfroots.proofs.output.with_room.Tie as tie
 
@@ -10,7 +10,7 @@ add-if1 : tie.Need-overflow-add-if1
 add-if1 c = search rules
 
 returns : tie.Need-returns
-returns c = (keeps-place c.before.before.args.o.waiting c.if1.true, c.if1.true)
+returns c = (keeps_place c.before.before.args.o.waiting c.if1.true, c.if1.true)
 
 handed_on-requires : tie.Need-handed_on-requires
 handed_on-requires c κs = search rules

@@ -4,9 +4,9 @@ use mathlib.Core.List.{List, ◌++◌, append-nil}
 use native.Mathlib.Omega.{arith}
 use Prim.Native.Nat.{ℕ}
 use lib.ListN.{length, drop, drop_of_length-le}
-use Rattle.roots.specs.Limits.{mostRoots}
+use Rattle.roots.specs.Limits.{most_roots}
 use Rattle.roots.specs.Calls.{Answer}
-use Rattle.unguarded.specs.Count.{countOf}
+use Rattle.unguarded.specs.Count.{count_of}
 use borrow.Author.Rules.{rules}
 use Rattle.unguarded.proofs.inner.unguarded_solve.Statement.{statement}
 use Rattle.unguarded.proofs.inner.unguarded_solve.Tie as tie
@@ -23,7 +23,7 @@ slice-aggregate-put-all c = search rules
 
 put-all-requires : tie.Need-put-all-requires
 put-all-requires c κs =
-    let four : length c.before.before.before.before.solved.result.roots ≡ mostRoots = search rules in
+    let four : length c.before.before.before.before.solved.result.roots ≡ most_roots = search rules in
     omega (arith, four, c.before.before.before.before.before.before.before.before.requires.1.0)
 
 slice-aggregate-put-all-2 : tie.Need-slice-aggregate-put-all-2
@@ -31,7 +31,7 @@ slice-aggregate-put-all-2 c = search rules
 
 put-all-requires-2 : tie.Need-put-all-requires-2
 put-all-requires-2 c κs =
-    let four : length c.before.before.before.before.before.before.before.before.before.solved.result.multiplicities ≡ mostRoots = search rules in
+    let four : length c.before.before.before.before.before.before.before.before.before.solved.result.multiplicities ≡ most_roots = search rules in
     omega (arith, four, c.before.before.before.before.before.before.before.before.before.before.before.before.before.requires.1.1)
 
 count-of-requires : tie.Need-count-of-requires
@@ -47,9 +47,9 @@ returns : tie.Need-returns
 returns c =
     let s = c.before.before.before.before.before.before.before.before.before.before.before.before.before.solved in
     let P = c.before.before.before.before.before.before.before.before.before.before.before.before.before.before.before.before.before.requires.1 in
-    let roots : length s.result.roots ≡ mostRoots = search rules in
-    let often : length s.result.multiplicities ≡ mostRoots = search rules in (
-      c.count_of.ensures ∙ ap (λ (a : Answer). countOf a.says) s.ensures,
+    let roots : length s.result.roots ≡ most_roots = search rules in
+    let often : length s.result.multiplicities ≡ most_roots = search rules in (
+      c.count_of.ensures ∙ ap (λ (a : Answer). count_of a.says) s.ensures,
       (
         c.before.before.before.before.before.before.before.before.put_all.ensures ∙ all _ _ (omega (arith, roots, P.0)) ∙ ap (λ (a : Answer). a.roots) s.ensures,
         c.before.before.before.put-all2.ensures ∙ all _ _ (omega (arith, often, P.1)) ∙ ap (λ (a : Answer). a.multiplicities) s.ensures,

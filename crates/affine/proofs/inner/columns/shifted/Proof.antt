@@ -4,10 +4,10 @@ use Prim.Native.Nat.{◌-◌, ◌^◌, ◌≤◌, ◌<◌}
 use native.Mathlib.Omega.{arith}
 use borrow.Author.Rules.{rules}
 use Rattle.binary.specs.Product.{product}
-use Rattle.binary.proofs.Product.{product-one}
-use Rattle.binary.proofs.Modulus.{timesX-lt}
+use Rattle.binary.proofs.Product.{product_one}
+use Rattle.binary.proofs.Modulus.{times_x_lt}
 use Rattle.galois.specs.Power.{power}
-use Rattle.affine.proofs.Terms.{shift-more}
+use Rattle.affine.proofs.Terms.{shift_more}
 use Rattle.affine.proofs.inner.columns.shifted.Statement.{statement}
 use Rattle.affine.proofs.inner.columns.shifted.Tie as tie
 
@@ -22,7 +22,7 @@ unfolding power
 loop-holds c =
     let a = c.args in
     let q = c.requires in
-    (omega arith, q.1, sym (product-one a.m a.p q.0.field.irr.degree a.t q.1))
+    (omega arith, q.1, sym (product_one a.m a.p q.0.field.irr.degree a.t q.1))
 
 doubled-requires : tie.Need-doubled-requires invariant-loop decreases-loop
 doubled-requires c κs = search rules
@@ -39,7 +39,7 @@ loop-again c =
     let q = c.before.before.before.requires in
     let l = c.before.before.loop in
     let e = c.doubled.ensures in
-    (omega arith, rw e (timesX-lt a.m a.p q.0.field.irr.degree _), e ∙ shift-more a.m a.p q.0.field a.t l.k l.moved l.invariant.2)
+    (omega arith, rw e (times_x_lt a.m a.p q.0.field.irr.degree _), e ∙ shift_more a.m a.p q.0.field a.t l.k l.moved l.invariant.2)
 
 returns : tie.Need-returns invariant-loop decreases-loop
 returns c =

@@ -4,7 +4,7 @@ use Prim.Native.Nat.{ℕ}
 use borrow.Author.Rules.{rules}
 use Rattle.binary.specs.Product.{product}
 use Rattle.galois.specs.Power.{power}
-use Rattle.affine.proofs.Terms.{step-lt, step_is}
+use Rattle.affine.proofs.Terms.{step_lt, step_is}
 use Rattle.affine.proofs.inner.columns.stepped.Statement.{statement}
 use Rattle.affine.proofs.inner.columns.stepped.Tie as tie
 
@@ -25,7 +25,7 @@ product-requires : tie.Need-product-requires
 product-requires c κs =
     let a = c.before.args in
     let q = c.before.requires in
-    (q.0.modulus, q.1, rw q.2 (step-lt a.m a.p q.0.field q.0.modulus a.i))
+    (q.0.modulus, q.1, rw q.2 (step_lt a.m a.p q.0.field q.0.modulus a.i))
 
 returns-2 : tie.Need-returns-2
 returns-2 c = search rules

@@ -2,7 +2,7 @@
 use Prim.Native.Nat.{◌-◌}
 use native.Mathlib.Omega.{arith}
 use borrow.Author.Rules.{rules}
-use Rattle.affine.proofs.Terms.{OneTerm, term-start, term-turn, term-end}
+use Rattle.affine.proofs.Terms.{OneTerm, term_start, term_turn, term_end}
 use Rattle.affine.proofs.inner.columns.with_term.Statement.{statement}
 use Rattle.affine.proofs.inner.columns.with_term.Tie as tie
 
@@ -13,7 +13,7 @@ abbrev decreases-loop : tie.decreases-loop
 decreases-loop p m l i step out₀ t₀ j₀ out t j = m - j
 
 loop-holds : tie.Need-loop-init invariant-loop decreases-loop
-loop-holds c = term-start _ _ c.requires.0.field _ _ _ c.requires.2
+loop-holds c = term_start _ _ c.requires.0.field _ _ _ c.requires.2
 
 cast-column : tie.Need-overflow-cast-column invariant-loop decreases-loop
 cast-column c = search rules
@@ -46,12 +46,12 @@ loop-again : tie.Need-loop-preserved invariant-loop decreases-loop
 loop-again c =
     let l = c.before.before.loop in
     let q = c.before.before.before.requires in
-    term-turn _ _ q.0.field _ _ _ l.out l.t l.j _ (omega arith) (omega arith) c.stepped.ensures l.invariant
+    term_turn _ _ q.0.field _ _ _ l.out l.t l.j _ (omega arith) (omega arith) c.stepped.ensures l.invariant
 
 returns : tie.Need-returns invariant-loop decreases-loop
 returns c =
     let q = c.before.before.requires in
-    term-end _ _ q.0.field q.0.modulus _ _ _ _ _ _ c.before.loop.j (omega arith) q.3 c.before.loop.invariant
+    term_end _ _ q.0.field q.0.modulus _ _ _ _ _ _ c.before.loop.j (omega arith) q.3 c.before.loop.invariant
 
 pub with-term-spec : {M : Type 1} → statement M
 with-term-spec =

@@ -4,7 +4,7 @@ use Prim.Native.Nat.{ℕ, ◌*◌, ◌<◌}
 use native.Mathlib.Nat.{zero-mul, one-mul}
 use lib.Bits.{bit_xor}
 use Rattle.binary.specs.Xor.{◌⊕◌}
-use Rattle.binary.proofs.Xor.{is-xor, xor-zero, xor-twice, by-digit}
+use Rattle.binary.proofs.Xor.{is_xor, xor-zero, xor_twice, by_digit}
 use Rattle.arithmetic.specs.Choice.{chosen_of}
 use borrow.Author.Rules.{rules}
 use Rattle.arithmetic.proofs.inner.inverse.chosen.Statement.{statement}
@@ -12,9 +12,9 @@ use Rattle.arithmetic.proofs.inner.inverse.chosen.Tie as tie
 
 choice : (x y d t : ℕ) → d < 2 → t ≡ d * bit_xor x y → bit_xor x t ≡ chosen_of d x y
 choice x y d t h =
-    by-digit (λ (d : ℕ). t ≡ d * bit_xor x y → bit_xor x t ≡ chosen_of d x y)
-    (λ e. ap (bit_xor x) (e ∙ zero-mul (bit_xor x y)) ∙ sym (is-xor x 0) ∙ xor-zero x)
-    (λ e. ap (bit_xor x) (e ∙ one-mul (bit_xor x y) ∙ sym (is-xor x y)) ∙ sym (is-xor x (x ⊕ y)) ∙ xor-twice x y) d h
+    by_digit (λ (d : ℕ). t ≡ d * bit_xor x y → bit_xor x t ≡ chosen_of d x y)
+    (λ e. ap (bit_xor x) (e ∙ zero-mul (bit_xor x y)) ∙ sym (is_xor x 0) ∙ xor-zero x)
+    (λ e. ap (bit_xor x) (e ∙ one-mul (bit_xor x y) ∙ sym (is_xor x y)) ∙ sym (is_xor x (x ⊕ y)) ∙ xor_twice x y) d h
 
 picked-requires : tie.Need-picked-requires
 picked-requires c κs = search rules

@@ -4,14 +4,14 @@ use mathlib.Core.Logic.{◌≢◌}
 use Prim.Native.Nat.{ℕ, zero, suc, ◌+◌}
 use native.Mathlib.Omega.{arith}
 use borrow.Author.Rules.{rules}
-use Rattle.binary.proofs.Xor.{exp-lt}
-use Rattle.arithmetic.specs.Choice.{chosen_of, lessDigit}
-use Rattle.arithmetic.proofs.Steps.{Head, Ordered, order, steps-start, steps-end, step-le, steps-turn, steps-less}
+use Rattle.binary.proofs.Xor.{exp_lt}
+use Rattle.arithmetic.specs.Choice.{chosen_of, less_digit}
+use Rattle.arithmetic.proofs.Steps.{Head, Ordered, order, steps_start, steps_end, step_le, steps_turn, steps_less}
 use Rattle.arithmetic.proofs.inner.inverse.inverse.Statement.{statement}
 use Rattle.arithmetic.proofs.inner.inverse.inverse.Tie as tie
 
 -- the four choices of a turn
-ordered : (m p a u v g h d hi lo ab be : ℕ) → Head m p a u v g h → u ≢ 1 → d ≡ lessDigit u v
+ordered : (m p a u v g h d hi lo ab be : ℕ) → Head m p a u v g h → u ≢ 1 → d ≡ less_digit u v
     → hi ≡ chosen_of d u v → lo ≡ chosen_of d v u → ab ≡ chosen_of d g h → be ≡ chosen_of d h g → Ordered m p a hi lo ab be
 ordered m p a u v g h d hi lo ab be H n e e1 e2 e3 e4 = rw (e1, e2, e3, e4) (order m p a u v g h d H n e)
 
@@ -29,7 +29,7 @@ abbrev decreases-loop : tie.decreases-loop
 decreases-loop p m a u₀ v₀ g₀ h₀ u v g h = u + v
 
 loop-holds : tie.Need-loop-init invariant-loop decreases-loop
-loop-holds c = steps-start c.args.m c.args.p c.args.a c.requires.0.field c.requires.1 c.requires.2
+loop-holds c = steps_start c.args.m c.args.p c.args.a c.requires.0.field c.requires.1 c.requires.2
 
 less-requires : tie.Need-less-requires invariant-loop decreases-loop
 less-requires c κs = search rules
@@ -67,17 +67,17 @@ sub-j : tie.Need-overflow-sub-j invariant-loop decreases-loop
 sub-j c =
     let d = c.before.before in
     let s = d.before.before.before.before.before.before.before in
-    step-le s.args.m s.args.p s.args.a s.requires.0.field _ _ _ _ c.before.degree.result c.degree2.result (ordered_at d)
+    step_le s.args.m s.args.p s.args.a s.requires.0.field _ _ _ _ c.before.degree.result c.degree2.result (ordered_at d)
     c.before.degree.ensures c.degree2.ensures
 
 shl-u : tie.Need-overflow-shl-u invariant-loop decreases-loop
 shl-u c =
-    let w = exp-lt c.before.degree.result 32 _ c.before.degree.ensures.0 (omega arith) in
+    let w = exp_lt c.before.degree.result 32 _ c.before.degree.ensures.0 (omega arith) in
     omega arith
 
 shl-g : tie.Need-overflow-shl-g invariant-loop decreases-loop
 shl-g c =
-    let w = exp-lt c.before.degree.result 32 c.before.before.before.before.before.chosen.result c.before.degree.ensures.0 (omega arith) in
+    let w = exp_lt c.before.degree.result 32 c.before.before.before.before.before.chosen.result c.before.degree.ensures.0 (omega arith) in
     omega arith
 
 loop-less : tie.Need-loop-smaller invariant-loop decreases-loop
@@ -85,7 +85,7 @@ loop-less c =
     let d = c.before.before in
     let s = d.before.before.before.before.before.before.before in
     let l = d.before.before.before.before.before.before.loop in
-    let w = steps-less s.args.m s.args.p s.args.a s.requires.0.field _ _ _ _ c.before.degree.result c.degree2.result (ordered_at d)
+    let w = steps_less s.args.m s.args.p s.args.a s.requires.0.field _ _ _ _ c.before.degree.result c.degree2.result (ordered_at d)
     c.before.degree.ensures c.degree2.ensures s.requires.0.modulus.fits in
     omega (arith, w, sum l.u l.v d.before.before.before.before.less.result _ _ d.before.before.before.chosen.ensures d.before.before.chosen2.ensures)
 
@@ -93,14 +93,14 @@ loop-again : tie.Need-loop-preserved invariant-loop decreases-loop
 loop-again c =
     let d = c.before.before in
     let s = d.before.before.before.before.before.before.before in
-    steps-turn s.args.m s.args.p s.args.a s.requires.0.field _ _ _ _ c.before.degree.result c.degree2.result (ordered_at d)
+    steps_turn s.args.m s.args.p s.args.a s.requires.0.field _ _ _ _ c.before.degree.result c.degree2.result (ordered_at d)
     c.before.degree.ensures c.degree2.ensures s.requires.0.modulus.fits
 
 returns : tie.Need-returns invariant-loop decreases-loop
 returns c =
     let a = c.before.before.args in
     let l = c.before.loop in
-    steps-end a.m a.p a.a c.before.before.requires.0.field l.u l.v l.g l.h l.invariant c.loop-test.false
+    steps_end a.m a.p a.a c.before.before.requires.0.field l.u l.v l.g l.h l.invariant c.loop-test.false
 
 pub inverse-spec : {M : Type 1} → statement M
 inverse-spec =

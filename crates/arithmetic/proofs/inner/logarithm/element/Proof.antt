@@ -5,16 +5,16 @@ use native.Mathlib.Omega.{arith}
 use lib.Pow.{pow_mono}
 use borrow.Author.Rules.{rules}
 use Rattle.galois.specs.Power.{power}
-use Rattle.arithmetic.specs.Number.{elementOf}
+use Rattle.arithmetic.specs.Number.{element_of}
 use Rattle.arithmetic.proofs.inner.logarithm.element.Statement.{statement}
 use Rattle.arithmetic.proofs.inner.logarithm.element.Tie as tie
 
-none : (p n : ℕ) → n ≡ 0 → 0 ≡ elementOf p n
-unfolding elementOf
+none : (p n : ℕ) → n ≡ 0 → 0 ≡ element_of p n
+unfolding element_of
 none p n e = rw e
 
-some : (p n : ℕ) → (n ≡ 0 → ⊥) → power p 2 (n - 1) ≡ elementOf p n
-unfolding elementOf
+some : (p n : ℕ) → (n ≡ 0 → ⊥) → power p 2 (n - 1) ≡ element_of p n
+unfolding element_of
 some p zero h = absurd (h refl)
 some p (suc n) h = let e : suc n - 1 ≡ n = omega arith in ap (power p 2) e
 

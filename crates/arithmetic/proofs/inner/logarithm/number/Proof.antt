@@ -2,7 +2,7 @@
 use Prim.Native.Nat.{◌-◌}
 use native.Mathlib.Omega.{arith}
 use lib.Pow.{pow_mono}
-use Rattle.arithmetic.proofs.Number.{Tried, tried-start, tried-turn, tried-found, tried-all}
+use Rattle.arithmetic.proofs.Number.{Tried, tried_start, tried_turn, tried_found, tried_all}
 use Rattle.arithmetic.proofs.inner.logarithm.number.Statement.{statement}
 use Rattle.arithmetic.proofs.inner.logarithm.number.Tie as tie
 
@@ -19,7 +19,7 @@ sub_order : tie.Need-overflow-sub-order invariant-loop decreases-loop
 sub_order c = let w = pow_mono c.before.requires.0.two in omega arith
 
 loop-holds : tie.Need-loop-init invariant-loop decreases-loop
-loop-holds c = let a = c.before.args in tried-start a.m a.p a.a c.before.requires.0
+loop-holds c = let a = c.before.args in tried_start a.m a.p a.a c.before.requires.0
 
 add-result : tie.Need-overflow-add-result invariant-loop decreases-loop
 add-result c = omega arith
@@ -28,7 +28,7 @@ returns : tie.Need-returns invariant-loop decreases-loop
 returns c =
     let a = c.before.before.before.before.args in
     let l = c.before.before.loop in
-    tried-found a.m a.p a.a c.before.before.before.before.requires.0 l.x l.e l.invariant (omega arith) c.if1.true
+    tried_found a.m a.p a.a c.before.before.before.before.requires.0 l.x l.e l.invariant (omega arith) c.if1.true
 
 doubled-requires : tie.Need-doubled-requires invariant-loop decreases-loop
 doubled-requires c κs = (c.before.before.before.before.requires.0, c.before.before.loop.invariant.small)
@@ -43,14 +43,14 @@ loop-again : tie.Need-loop-preserved invariant-loop decreases-loop
 loop-again c =
     let a = c.before.before.before.before.before.args in
     let l = c.before.before.before.loop in
-    tried-turn a.m a.p a.a c.before.before.before.before.before.requires.0 l.x l.e l.invariant _ (omega arith) c.before.if1.false
+    tried_turn a.m a.p a.a c.before.before.before.before.before.requires.0 l.x l.e l.invariant _ (omega arith) c.before.if1.false
     c.doubled.ensures
 
 returns-2 : tie.Need-returns-2 invariant-loop decreases-loop
 returns-2 c =
     let a = c.before.before.before.args in
     let l = c.before.loop in
-    tried-all a.m a.p a.a c.before.before.before.requires.0 l.x l.e l.invariant (omega arith)
+    tried_all a.m a.p a.a c.before.before.before.requires.0 l.x l.e l.invariant (omega arith)
 
 pub number-spec : {M : Type 1} → statement M
 number-spec =

@@ -1,7 +1,7 @@
 -- `power` meets its contract. Assumes nothing.
 use mathlib.Core.Path.{sym, ◌∙◌}
 use mir.Facts.{to_z-of_z}
-use Rattle.arithmetic.proofs.Power.{power-plain, power-inverse}
+use Rattle.arithmetic.proofs.Power.{power_plain, power_inverse}
 use borrow.Author.Rules.{rules}
 use Rattle.arithmetic.proofs.inner.power.power.Statement.{statement}
 use Rattle.arithmetic.proofs.inner.power.power.Tie as tie
@@ -29,7 +29,7 @@ returns c =
     let i = to_z-of_z t.before.before.ranges.e in
     let n = sym (rw i at t.is_negative.ensures) ∙ c.before.before.if1.true in
     c.raised.ensures
-    ∙ power-inverse a.m a.p q.0.field a.a c.before.inverse.result t.before.magnitude.result a.e (q.2 n) q.1
+    ∙ power_inverse a.m a.p q.0.field a.a c.before.inverse.result t.before.magnitude.result a.e (q.2 n) q.1
     c.before.inverse.ensures.0 c.before.inverse.ensures.1 n (rw i at t.before.magnitude.ensures)
 
 raised-requires-2 : tie.Need-raised-requires-2
@@ -41,7 +41,7 @@ returns-2 c =
     let a = t.before.before.args in
     let i = to_z-of_z t.before.before.ranges.e in
     c.raised2.ensures
-    ∙ power-plain a.m a.p t.before.before.requires.0.field a.a t.before.magnitude.result a.e
+    ∙ power_plain a.m a.p t.before.before.requires.0.field a.a t.before.magnitude.result a.e
     (sym (rw i at t.is_negative.ensures) ∙ c.before.if1.false) (rw i at t.before.magnitude.ensures)
 
 pub power-spec : {M : Type 1} → statement M

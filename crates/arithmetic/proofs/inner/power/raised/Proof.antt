@@ -4,11 +4,11 @@ use Prim.Native.Nat.{ℕ, ◌/◌, ◌%◌, ◌<◌, ◌^◌}
 use native.Mathlib.Omega.{arith}
 use borrow.Author.Rules.{rules}
 use Rattle.binary.specs.Product.{product}
-use Rattle.binary.proofs.Product.{product_lt, product-one, one_product, product-assoc}
+use Rattle.binary.proofs.Product.{product_lt, product_one, one_product, product_assoc}
 use Rattle.galois.specs.Field.{Field}
-use Rattle.galois.proofs.Field.{one-lt}
+use Rattle.galois.proofs.Field.{one_lt}
 use Rattle.galois.specs.Power.{power}
-use Rattle.galois.proofs.Power.{power-lt}
+use Rattle.galois.proofs.Power.{power_lt}
 use Rattle.arithmetic.proofs.Power.{power-digit}
 use Rattle.arithmetic.proofs.inner.power.raised.Statement.{statement}
 use Rattle.arithmetic.proofs.inner.power.raised.Tie as tie
@@ -27,7 +27,7 @@ decreases-loop p m a n result₀ base₀ left₀ result base left = left
 
 module _ (m p : ℕ) (F : Field m p) where
   start : (a n : ℕ) → a < 2 ^ m → Raised m p (power p a n) 1 a n
-  start a n h = record { done = one-lt m p F; small = h; whole = one_product m p F.irr.degree (power p a n) (power-lt m p F a n) }
+  start a n h = record { done = one_lt m p F; small = h; whole = one_product m p F.irr.degree (power p a n) (power_lt m p F a n) }
 
   turn : (w result base left r b : ℕ) → Raised m p w result base left → r ≡ product p result (power p base (left % 2)) → b ≡ product p base base
       → Raised m p w r b (left / 2)
@@ -37,14 +37,14 @@ module _ (m p : ℕ) (F : Field m p) where
         done = rw er (product_lt m p d result (power p base (left % 2)));
         small = rw eb (product_lt m p d base base);
         whole = ap₂ (λ (x y : ℕ). product p x (power p y (left / 2))) er eb
-            ∙ product-assoc m p d result (power p base (left % 2)) (power p (product p base base) (left / 2))
+            ∙ product_assoc m p d result (power p base (left % 2)) (power p (product p base base) (left / 2))
             ∙ ap (product p result) (sym (power-digit m p F base left S.small)) ∙ S.whole;
       }
 
   end : (w result base left : ℕ) → left ≡ 0 → Raised m p w result base left → result ≡ w
   unfolding power
   end w result base left e S =
-      sym (ap (λ (k : ℕ). product p result (power p base k)) e ∙ product-one m p F.irr.degree result S.done) ∙ S.whole
+      sym (ap (λ (k : ℕ). product p result (power p base k)) e ∙ product_one m p F.irr.degree result S.done) ∙ S.whole
 
 loop-holds : tie.Need-loop-init invariant-loop decreases-loop
 loop-holds c = start c.args.m c.args.p c.requires.0.field c.args.a c.args.n c.requires.1

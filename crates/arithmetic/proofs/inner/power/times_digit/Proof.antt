@@ -4,19 +4,19 @@ use Prim.Native.Nat.{ℕ, ◌<◌, ◌^◌}
 use native.Mathlib.Omega.{arith}
 use borrow.Author.Rules.{rules}
 use Rattle.binary.specs.Product.{product}
-use Rattle.binary.proofs.Product.{product-one}
+use Rattle.binary.proofs.Product.{product_one}
 use Rattle.galois.specs.Field.{Field}
 use Rattle.galois.specs.Power.{power}
-use Rattle.galois.proofs.Power.{power-one}
+use Rattle.galois.proofs.Power.{power_one}
 use Rattle.arithmetic.proofs.inner.power.times_digit.Statement.{statement}
 use Rattle.arithmetic.proofs.inner.power.times_digit.Tie as tie
 
 none : (m p r x d : ℕ) → Field m p → r < 2 ^ m → d ≡ 0 → r ≡ product p r (power p x d)
 unfolding power
-none m p r x d F h e = sym (ap (λ (k : ℕ). product p r (power p x k)) e ∙ product-one m p F.irr.degree r h)
+none m p r x d F h e = sym (ap (λ (k : ℕ). product p r (power p x k)) e ∙ product_one m p F.irr.degree r h)
 
 once : (m p r x d s : ℕ) → Field m p → x < 2 ^ m → d ≡ 1 → s ≡ product p r x → s ≡ product p r (power p x d)
-once m p r x d s F h e q = q ∙ ap (product p r) (sym (ap (power p x) e ∙ power-one m p F x h))
+once m p r x d s F h e q = q ∙ ap (product p r) (sym (ap (power p x) e ∙ power_one m p F x h))
 
 returns : tie.Need-returns
 returns c =

@@ -6,12 +6,12 @@ use native.Mathlib.Omega.{arith}
 use lib.Bits.{bit_xor}
 use borrow.Author.Rules.{rules}
 use Rattle.binary.specs.Xor.{◌⊕◌}
-use Rattle.binary.proofs.Xor.{is-xor}
+use Rattle.binary.proofs.Xor.{is_xor}
 use Rattle.binary.specs.Product.{product}
 use Rattle.galois.specs.Field.{Field}
 use Rattle.galois.specs.Power.{squares}
-use Rattle.galois.proofs.Power.{squares-lt}
-use Rattle.galois.specs.Trace.{partTrace, trace}
+use Rattle.galois.proofs.Power.{squares_lt}
+use Rattle.galois.specs.Trace.{part_trace, trace}
 use Rattle.arithmetic.proofs.inner.power.trace.Statement.{statement}
 use Rattle.arithmetic.proofs.inner.power.trace.Tie as tie
 
@@ -19,7 +19,7 @@ record Traced (m p c sum x k : ℕ) : Type 0 where
   turns : k ≤ m
   small : x < 2 ^ m
   now : x ≡ squares p k c
-  so_far : sum ≡ partTrace p k c
+  so_far : sum ≡ part_trace p k c
 
 abbrev invariant-loop : tie.invariant-loop
 invariant-loop p m c sum₀ x₀ k₀ sum x k = Traced m p c sum x k
@@ -28,24 +28,24 @@ abbrev decreases-loop : tie.decreases-loop
 decreases-loop p m c sum₀ x₀ k₀ sum x k = m - k
 
 start : (m p c : ℕ) → c < 2 ^ m → Traced m p c 0 c 0
-unfolding squares partTrace
+unfolding squares part_trace
 start m p c h = record { turns = omega arith; small = h; now = refl; so_far = refl }
 
 turn : (m p c sum x k r : ℕ) → Field m p → c < 2 ^ m → k < m → Traced m p c sum x k → r ≡ product p x x → Traced m p c (bit_xor sum x) r (k + 1)
-unfolding squares partTrace
+unfolding squares part_trace
 turn m p c sum x k r F h l S e =
     let n : r ≡ squares p (k + 1) c = e ∙ ap (λ (v : ℕ). product p v v) S.now ∙ ap (λ (j : ℕ). squares p j c) (sym (add-one k)) in
     record {
       turns = omega arith;
-      small = rw n (squares-lt m p F (k + 1) c h);
+      small = rw n (squares_lt m p F (k + 1) c h);
       now = n;
-      so_far = sym (is-xor sum x) ∙ ap₂ ◌⊕◌ S.so_far S.now ∙ ap (λ (j : ℕ). partTrace p j c) (sym (add-one k));
+      so_far = sym (is_xor sum x) ∙ ap₂ ◌⊕◌ S.so_far S.now ∙ ap (λ (j : ℕ). part_trace p j c) (sym (add-one k));
     }
 
 end : (m p c sum x k : ℕ) → m ≤ k → Traced m p c sum x k → sum ≡ trace m p c
 end m p c sum x k l S =
     let q : k ≡ m = omega (arith, S.turns) in
-    S.so_far ∙ ap (λ (j : ℕ). partTrace p j c) q
+    S.so_far ∙ ap (λ (j : ℕ). part_trace p j c) q
 
 loop-holds : tie.Need-loop-init invariant-loop decreases-loop
 loop-holds c = start c.args.m c.args.p c.args.c c.requires.1

@@ -1,6 +1,6 @@
 -- `has_zero` meets its contract: no rest seen so far is 0. Assumes nothing.
 use Rattle.std.proofs.Common.{◌≡◌, ℕ, ◌-◌, ◌<◌, false, eqb, get_or, sym, arith, rules, below_more, eq-eqb, ne_eqb}
-use Rattle.algebra.proofs.Search.{some_one, some-none}
+use Rattle.algebra.proofs.Search.{some_one, some_none}
 use Rattle.binary.specs.Block.{block}
 use Rattle.binary.proofs.inner.division.has_zero.Statement.{statement}
 use Rattle.binary.proofs.inner.division.has_zero.Tie as tie
@@ -37,7 +37,7 @@ loop-again c =
     below_more _ _ l.invariant (ne_eqb (get_or c.before.before.before.args.t1 l.i 0) 0 c.if1.false)
 
 returns-2 : tie.Need-returns-2 invariant-loop decreases-loop
-returns-2 c = sym (some-none _ block (λ j l. c.before.loop.invariant j (omega arith)))
+returns-2 c = sym (some_none _ block (λ j l. c.before.loop.invariant j (omega arith)))
 
 pub has-zero-spec : {M : Type 1} → statement M
 has-zero-spec =

@@ -1,6 +1,6 @@
 -- `remainder` meets its contract: after each turn the rest is a number with a's remainder, one place higher. Assumes nothing.
 use Rattle.std.proofs.Common.{◌-◌, ◌≤◌, arith, rules}
-use Rattle.binary.proofs.Aligned.{Aligned, divisor-degree, aligned-start, aligned-turn, aligned-end}
+use Rattle.binary.proofs.Aligned.{Aligned, divisor_degree, aligned_start, aligned_turn, aligned_end}
 use Rattle.binary.proofs.inner.division.remainder.Statement.{statement}
 use Rattle.binary.proofs.inner.division.remainder.Tie as tie
 
@@ -14,10 +14,10 @@ degree-requires : tie.Need-degree-requires invariant-loop decreases-loop
 degree-requires c κs = omega (arith, c.requires.two)
 
 sub-divisor : tie.Need-overflow-sub-divisor invariant-loop decreases-loop
-sub-divisor c = let w = divisor-degree c.before.requires c.degree.ensures in omega arith
+sub-divisor c = let w = divisor_degree c.before.requires c.degree.ensures in omega arith
 
 shl-divisor : tie.Need-overflow-shl-divisor invariant-loop decreases-loop
-shl-divisor c = let w = divisor-degree c.before.requires c.degree.ensures in omega arith
+shl-divisor c = let w = divisor_degree c.before.requires c.degree.ensures in omega arith
 
 sub-rest : tie.Need-overflow-sub-rest invariant-loop decreases-loop
 sub-rest c = omega (arith, c.before.requires.fits)
@@ -29,13 +29,13 @@ sub-s : tie.Need-overflow-sub-s invariant-loop decreases-loop
 sub-s c = omega (arith, c.before.requires.fits)
 
 sub-s-end : tie.Need-overflow-sub-s-end invariant-loop decreases-loop
-sub-s-end c = let w = divisor-degree c.before.requires c.degree.ensures in omega arith
+sub-s-end c = let w = divisor_degree c.before.requires c.degree.ensures in omega arith
 
 loop-holds : tie.Need-loop-init invariant-loop decreases-loop
 loop-holds c =
     let a = c.before.args in
-    let w = divisor-degree c.before.requires c.degree.ensures in
-    (omega arith, aligned-start a.m a.a a.d c.before.requires.degree (omega arith))
+    let w = divisor_degree c.before.requires c.degree.ensures in
+    (omega arith, aligned_start a.m a.a a.d c.before.requires.degree (omega arith))
 
 turned-requires : tie.Need-turned-requires invariant-loop decreases-loop
 turned-requires c κs = search rules
@@ -52,22 +52,22 @@ loop-again c =
     let l = c.before.before.loop in
     let g = c.before.before.before.degree in (
       omega arith,
-      rw c.turned.ensures (aligned-turn g.result a.a a.d l.rest l.s g.ensures (omega arith) l.invariant.1),
+      rw c.turned.ensures (aligned_turn g.result a.a a.d l.rest l.s g.ensures (omega arith) l.invariant.1),
     )
 
 sub-result : tie.Need-overflow-sub-result invariant-loop decreases-loop
-sub-result c = let w = divisor-degree c.before.before.before.requires c.before.before.degree.ensures in omega arith
+sub-result c = let w = divisor_degree c.before.before.before.requires c.before.before.degree.ensures in omega arith
 
 shr-result : tie.Need-overflow-shr-result invariant-loop decreases-loop
-shr-result c = let w = divisor-degree c.before.before.before.requires c.before.before.degree.ensures in omega arith
+shr-result c = let w = divisor_degree c.before.before.before.requires c.before.before.degree.ensures in omega arith
 
 returns : tie.Need-returns invariant-loop decreases-loop
 returns c =
     let a = c.before.before.before.args in
     let l = c.before.loop in
     let g = c.before.before.degree in
-    let w = divisor-degree c.before.before.before.requires g.ensures in
-    aligned-end g.result a.a a.d l.rest l.s g.ensures (omega arith) (omega (arith, l.invariant.0)) l.invariant.1
+    let w = divisor_degree c.before.before.before.requires g.ensures in
+    aligned_end g.result a.a a.d l.rest l.s g.ensures (omega arith) (omega (arith, l.invariant.0)) l.invariant.1
 
 pub remainder-spec : {M : Type 1} → statement M
 remainder-spec =

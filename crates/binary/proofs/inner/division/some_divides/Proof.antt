@@ -1,6 +1,6 @@
 -- `some_divides` meets its contract: each of the divisions goes on as `remainder` does. Assumes nothing.
 use Rattle.std.proofs.Common.{◌-◌, ◌≤◌, ◌∙◌, arith, rules}
-use Rattle.binary.proofs.Block.{Beside, beside-start, beside-turn, beside_end}
+use Rattle.binary.proofs.Block.{Beside, beside_start, beside_turn, beside_end}
 use Rattle.binary.proofs.inner.division.some_divides.Statement.{statement}
 use Rattle.binary.proofs.inner.division.some_divides.Tie as tie
 
@@ -29,7 +29,7 @@ loop-holds : tie.Need-loop-init invariant-loop decreases-loop
 loop-holds c =
     let a = c.before.args in
     let D = c.before.requires in
-    (omega (arith, D.fits, D.most), beside-start a.m a.k a.a c.raised.result D.degree (omega (arith, D.fits)))
+    (omega (arith, D.fits, D.most), beside_start a.m a.k a.a c.raised.result D.degree (omega (arith, D.fits)))
 
 turned-each-requires : tie.Need-turned-each-requires invariant-loop decreases-loop
 turned-each-requires c κs = search rules
@@ -47,7 +47,7 @@ loop-again c =
     let l = c.before.before.loop in
     let r = c.before.before.before.raised in (
       omega arith,
-      beside-turn a.k a.a r.result l.rests c.turned-each.result l.t (omega (arith, D.most, D.fits)) c.turned-each.ensures l.invariant.1,
+      beside_turn a.k a.a r.result l.rests c.turned-each.result l.t (omega (arith, D.most, D.fits)) c.turned-each.ensures l.invariant.1,
     )
 
 has-zero-requires : tie.Need-has-zero-requires invariant-loop decreases-loop
@@ -59,7 +59,7 @@ returns c =
     let D = c.before.before.before.before.requires in
     let l = c.before.before.loop in
     let r = c.before.before.before.raised in
-    c.has-zero.ensures
+    c.has_zero.ensures
     ∙ beside_end a.k a.a a.divisors r.result l.rests l.t (omega (arith, D.most, D.fits)) (omega (arith, l.invariant.0)) D.alike r.ensures l.invariant.1
 
 pub some-divides-spec : {M : Type 1} → statement M

@@ -2,13 +2,13 @@
 use Rattle.std.proofs.Common.{◌≡◌, ℕ, ◌*◌, ◌/◌, ◌%◌, ◌^◌, sym, ap, ◌∙◌, arith}
 use lib.Bits.{bit_xor}
 use Rattle.binary.specs.Block.{turn}
-use Rattle.binary.proofs.Xor.{is-xor}
+use Rattle.binary.proofs.Xor.{is_xor}
 use Rattle.binary.proofs.inner.division.turned.Statement.{statement}
 use Rattle.binary.proofs.inner.division.turned.Tie as tie
 
 by-xor : (divisor rest t : ℕ) → t ≡ rest / 2 ^ 31 * divisor → (bit_xor rest t * 2) % 2 ^ 32 ≡ turn divisor rest
 unfolding turn
-by-xor divisor rest t e = ap (λ (x : ℕ). (x * 2) % 2 ^ 32) (ap (bit_xor rest) e ∙ sym (is-xor rest (rest / 2 ^ 31 * divisor)))
+by-xor divisor rest t e = ap (λ (x : ℕ). (x * 2) % 2 ^ 32) (ap (bit_xor rest) e ∙ sym (is_xor rest (rest / 2 ^ 31 * divisor)))
 
 picked-requires : tie.Need-picked-requires
 picked-requires c κs = omega arith

@@ -1,8 +1,8 @@
 -- `turned_each` meets its contract: entry by entry. Assumes nothing.
 use Rattle.std.proofs.Common.{◌-◌, get_or, arith, rules}
-use Rattle.algebra.proofs.Filled.{Filled, filled_none, filled-change}
+use Rattle.algebra.proofs.Filled.{Filled, filled_none, filled_change}
 use Rattle.binary.specs.Block.{block, turn}
-use Rattle.binary.proofs.Block.{entries-filled}
+use Rattle.binary.proofs.Block.{entries_filled}
 use Rattle.binary.proofs.inner.division.turned_each.Statement.{statement}
 use Rattle.binary.proofs.inner.division.turned_each.Tie as tie
 
@@ -45,10 +45,10 @@ loop-less c = search rules
 loop-again : tie.Need-loop-preserved invariant-loop decreases-loop
 loop-again c =
     let l = c.before.before.loop in
-    filled-change (λ j x. turn (get_or c.before.before.before.args.t2 j 0) x) _ l.out l.i c.turned.result (omega arith) c.turned.ensures l.invariant
+    filled_change (λ j x. turn (get_or c.before.before.before.args.t2 j 0) x) _ l.out l.i c.turned.result (omega arith) c.turned.ensures l.invariant
 
 returns : tie.Need-returns invariant-loop decreases-loop
-returns c = entries-filled _ _ _ c.before.loop.i (omega arith) (omega arith) c.before.loop.invariant
+returns c = entries_filled _ _ _ c.before.loop.i (omega arith) (omega arith) c.before.loop.invariant
 
 pub turned-each-spec : {M : Type 1} → statement M
 turned-each-spec =

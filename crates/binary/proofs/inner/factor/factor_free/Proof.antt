@@ -2,15 +2,15 @@
 use Rattle.std.proofs.Common.{◌≡◌, ℕ, suc, ◌+◌, ◌-◌, ◌/◌, ◌%◌, ◌^◌, ◌<◌, ◌≤◌, min, true, false, ◌≢◌, List, get_or, sym, ap, ◌∙◌, add-one, arith, pow_mono, eqb-true}
 use native.Mathlib.Decide.{dec_lt}
 use borrow.Author.Tests.{eqb-false}
-use Rattle.algebra.specs.Search.{someBelow}
-use Rattle.algebra.proofs.Search.{some-yes, some-not}
+use Rattle.algebra.specs.Search.{some_below}
+use Rattle.algebra.proofs.Search.{some_yes, some_not}
 use Rattle.binary.specs.Xor.{Degree}
 use Rattle.binary.specs.Remainder.{remainder, divides}
 use Rattle.binary.specs.Product.{Modulus}
-use Rattle.binary.specs.Factor.{factorFree}
+use Rattle.binary.specs.Factor.{factor_free}
 use Rattle.binary.specs.Block.{block, entries, Divisions, Room}
-use Rattle.binary.proofs.Xor.{exp-lt}
-use Rattle.binary.proofs.Factor.{factor-free, divisor-found}
+use Rattle.binary.proofs.Xor.{exp_lt}
+use Rattle.binary.proofs.Factor.{factor_free_lem, divisor_found}
 use Rattle.binary.proofs.Block.{entries_at, block-below}
 use Rattle.binary.proofs.inner.factor.factor_free.Statement.{statement}
 use Rattle.binary.proofs.inner.factor.factor_free.Tie as tie
@@ -27,12 +27,12 @@ limit-le {m} {p} {limit} M e =
     (omega (arith, M.degree.0), omega arith)
 
 -- a divisor below 8
-small-divisor : (m p limit : ℕ) → limit ≡ 2 ^ (m / 2 + 1) → someBelow (λ i. divides (suc (suc i)) p) (min limit block - 2) ≡ true → false ≡ factorFree m p
+small-divisor : (m p limit : ℕ) → limit ≡ 2 ^ (m / 2 + 1) → some_below (λ i. divides (suc (suc i)) p) (min limit block - 2) ≡ true → false ≡ factor_free m p
 small-divisor m p limit e t =
-    let y = some-yes (λ i. divides (suc (suc i)) p) (min limit block - 2) t in
+    let y = some_yes (λ i. divides (suc (suc i)) p) (min limit block - 2) t in
     let l = y.1 in
     let f : limit ≡ 2 ^ suc (m / 2) = rw add-one at e in
-    sym (divisor-found m p (suc (suc y.0)) (omega arith) (omega arith) (eqb-true (remainder p (suc (suc y.0))) 0 y.2))
+    sym (divisor_found m p (suc (suc y.0)) (omega arith) (omega arith) (eqb-true (remainder p (suc (suc y.0))) 0 y.2))
 
 -- the divisors from `first` on are next
 record Tried (m p limit first : ℕ) (divisors : List ℕ) : Type 0 where
@@ -43,7 +43,7 @@ record Tried (m p limit first : ℕ) (divisors : List ℕ) : Type 0 where
   are : (i : ℕ) → i < block → get_or divisors i 0 ≡ first + i
   none : (j : ℕ) → j < first → 2 ≤ j → j < limit → remainder p j ≢ 0
 
-start : {m p limit : ℕ} → Modulus m p → limit ≡ 2 ^ (m / 2 + 1) → someBelow (λ i. divides (suc (suc i)) p) (min limit block - 2) ≡ false
+start : {m p limit : ℕ} → Modulus m p → limit ≡ 2 ^ (m / 2 + 1) → some_below (λ i. divides (suc (suc i)) p) (min limit block - 2) ≡ false
     → Tried m p limit block (entries (λ i. block + i))
 start {m} {p} {limit} M e n =
     record {
@@ -55,14 +55,14 @@ start {m} {p} {limit} M e n =
       none = λ j l h b.
           let q : suc (suc (j - 2)) ≡ j = omega arith in
           eqb-false (remainder p j) 0
-          (sym (ap (λ (x : ℕ). divides x p) q) ∙ some-not (λ i. divides (suc (suc i)) p) (min limit block - 2) n (j - 2) (omega arith));
+          (sym (ap (λ (x : ℕ). divides x p) q) ∙ some_not (λ i. divides (suc (suc i)) p) (min limit block - 2) n (j - 2) (omega arith));
     }
 
 module _ {m p limit first : ℕ} {divisors : List ℕ} (t : Tried m p limit first divisors) where
-  all : limit ≤ first → true ≡ factorFree m p
+  all : limit ≤ first → true ≡ factor_free m p
   all l =
       let f : limit ≡ 2 ^ suc (m / 2) = rw add-one at t.limit_is in
-      sym (factor-free m p (λ j h k. t.none j (omega arith) h (omega arith)))
+      sym (factor_free_lem m p (λ j h k. t.none j (omega arith) h (omega arith)))
 
   module _ (l : first < limit) where
     -- all of the block is below the limit
@@ -76,7 +76,7 @@ module _ {m p limit first : ℕ} {divisors : List ℕ} (t : Tried m p limit firs
     divisions k dd =
         let M = t.modulus in
         let w = limit-le M t.limit_is in
-        let v = exp-lt k (suc m) p (omega (arith, dd.0)) M.degree.1 in
+        let v = exp_lt k (suc m) p (omega (arith, dd.0)) M.degree.1 in
         record {
           degree = M.degree;
           fits = M.fits;
@@ -91,15 +91,15 @@ module _ {m p limit first : ℕ} {divisors : List ℕ} (t : Tried m p limit firs
     place : (i : ℕ) → i < block → divides (get_or divisors i 0) p ≡ divides (first + i) p
     place i h = ap (λ (x : ℕ). divides x p) (t.are i h)
 
-    divisor : someBelow (λ i. divides (get_or divisors i 0) p) block ≡ true → false ≡ factorFree m p
+    divisor : some_below (λ i. divides (get_or divisors i 0) p) block ≡ true → false ≡ factor_free m p
     divisor s =
-        let y = some-yes (λ i. divides (get_or divisors i 0) p) block s in
+        let y = some_yes (λ i. divides (get_or divisors i 0) p) block s in
         let i = y.0 in
         let f : limit ≡ 2 ^ suc (m / 2) = rw add-one at t.limit_is in
         let b = below i y.1 in
-        sym (divisor-found m p (first + i) (omega (arith, t.low)) (omega arith) (eqb-true (remainder p (first + i)) 0 (sym (place i y.1) ∙ y.2)))
+        sym (divisor_found m p (first + i) (omega (arith, t.low)) (omega arith) (eqb-true (remainder p (first + i)) 0 (sym (place i y.1) ∙ y.2)))
 
-    turn : (next : List ℕ) → someBelow (λ i. divides (get_or divisors i 0) p) block ≡ false → next ≡ entries (λ i. get_or divisors i 0 + block)
+    turn : (next : List ℕ) → some_below (λ i. divides (get_or divisors i 0) p) block ≡ false → next ≡ entries (λ i. get_or divisors i 0 + block)
         → Tried m p limit (first + block) next
     turn next s e =
         record {
@@ -119,7 +119,7 @@ module _ {m p limit first : ℕ} {divisors : List ℕ} (t : Tried m p limit firs
             let k : j - first < block = omega arith in
             let q : first + (j - first) ≡ j = omega arith in
             eqb-false (remainder p j) 0
-            (ap (λ (x : ℕ). divides x p) (sym q) ∙ sym (place (j - first) k) ∙ some-not (λ i. divides (get_or divisors i 0) p) block s (j - first) k)
+            (ap (λ (x : ℕ). divides x p) (sym q) ∙ sym (place (j - first) k) ∙ some_not (λ i. divides (get_or divisors i 0) p) block s (j - first) k)
 
 abbrev invariant-loop : tie.invariant-loop
 invariant-loop p m limit first₀ divisors₀ first divisors = Tried m p limit first divisors

@@ -1,7 +1,7 @@
 -- `few_divide` meets its contract: no divisor tried so far divides p. Assumes nothing.
 use Rattle.std.proofs.Common.{◌≡◌, ℕ, suc, ◌+◌, ◌-◌, ◌<◌, ◌≤◌, min, true, false, ◌≢◌, sym, ap, ◌∙◌, arith, below_more, eq-eqb, ne_eqb}
-use Rattle.algebra.specs.Search.{someBelow}
-use Rattle.algebra.proofs.Search.{some_one, some-none}
+use Rattle.algebra.specs.Search.{some_below}
+use Rattle.algebra.proofs.Search.{some_one, some_none}
 use Rattle.binary.specs.Remainder.{remainder, divides}
 use Rattle.binary.specs.Block.{block}
 use Rattle.binary.proofs.inner.factor.few_divide.Statement.{statement}
@@ -21,15 +21,15 @@ turn p d r t l e n =
     record { low = omega (arith, t.low); high = omega arith; none = below_more _ d t.none (λ h. ne_eqb (remainder p d) 0 (λ z. n (e ∙ z))) }
 
 divisor : (p limit d r : ℕ) → Tried p d → d < block → d < limit → r ≡ remainder p d → r ≡ 0
-    → true ≡ someBelow (λ i. divides (suc (suc i)) p) (min limit block - 2)
+    → true ≡ some_below (λ i. divides (suc (suc i)) p) (min limit block - 2)
 divisor p limit d r t h l e z =
     let q : suc (suc (d - 2)) ≡ d = omega (arith, t.low) in
     sym (some_one (λ i. divides (suc (suc i)) p) (min limit block - 2) (d - 2) (omega (arith, t.low))
     (ap (λ (x : ℕ). divides x p) q ∙ eq-eqb (remainder p d) 0 (sym e ∙ z)))
 
-all : (p limit d : ℕ) → Tried p d → min limit block ≤ d → false ≡ someBelow (λ i. divides (suc (suc i)) p) (min limit block - 2)
+all : (p limit d : ℕ) → Tried p d → min limit block ≤ d → false ≡ some_below (λ i. divides (suc (suc i)) p) (min limit block - 2)
 all p limit d t l =
-    sym (some-none (λ i. divides (suc (suc i)) p) (min limit block - 2) (λ j h. t.none (suc (suc j)) (omega arith) (omega arith)))
+    sym (some_none (λ i. divides (suc (suc i)) p) (min limit block - 2) (λ j h. t.none (suc (suc j)) (omega arith) (omega arith)))
 
 abbrev invariant-loop : tie.invariant-loop
 invariant-loop p m limit d₀ d = Tried p d

@@ -1,8 +1,8 @@
 -- `following` meets its contract: entry by entry. Assumes nothing.
 use Rattle.std.proofs.Common.{◌+◌, ◌-◌, get_or, refl, arith, rules}
-use Rattle.algebra.proofs.Filled.{Filled, filled_none, filled-change}
+use Rattle.algebra.proofs.Filled.{Filled, filled_none, filled_change}
 use Rattle.binary.specs.Block.{block}
-use Rattle.binary.proofs.Block.{entries-filled}
+use Rattle.binary.proofs.Block.{entries_filled}
 use Rattle.binary.proofs.inner.factor.following.Statement.{statement}
 use Rattle.binary.proofs.inner.factor.following.Tie as tie
 
@@ -43,10 +43,10 @@ loop-less c = search rules
 loop-again : tie.Need-loop-preserved invariant-loop decreases-loop
 loop-again c =
     let l = c.before.loop in
-    filled-change (λ j x. x + block) _ l.out l.i _ (omega arith) refl l.invariant
+    filled_change (λ j x. x + block) _ l.out l.i _ (omega arith) refl l.invariant
 
 returns : tie.Need-returns invariant-loop decreases-loop
-returns c = entries-filled _ _ _ c.before.loop.i (omega arith) (omega arith) c.before.loop.invariant
+returns c = entries_filled _ _ _ c.before.loop.i (omega arith) (omega arith) c.before.loop.invariant
 
 pub following-spec : {M : Type 1} → statement M
 following-spec =

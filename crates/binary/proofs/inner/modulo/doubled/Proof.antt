@@ -1,8 +1,8 @@
 -- `doubled` meets its contract. Assumes nothing.
 use Rattle.std.proofs.Common.{◌≡◌, ℕ, suc, ◌-◌, ◌*◌, ◌/◌, ◌^◌, ◌<◌, ◌≤◌, sym, ap, ◌∙◌, div-lt_iff_lt-mul, arith, pow_pos, pow_mono, rules}
 use Rattle.binary.specs.Xor.{◌⊕◌}
-use Rattle.binary.proofs.Xor.{is-xor}
-use Rattle.binary.proofs.Modulus.{timesX-is}
+use Rattle.binary.proofs.Xor.{is_xor}
+use Rattle.binary.proofs.Modulus.{times_x_is}
 use Rattle.binary.proofs.inner.modulo.doubled.Statement.{statement}
 use Rattle.binary.proofs.inner.modulo.doubled.Tie as tie
 
@@ -28,8 +28,8 @@ returns : tie.Need-returns
 returns c =
     let a = c.before.args in
     let f = c.before.requires.0 in
-    sym (is-xor (a.x * 2) c.picked.result) ∙ ap (λ (v : ℕ). a.x * 2 ⊕ v) c.picked.ensures
-    ∙ timesX-is a.m a.p f.degree a.x (omega (arith, f.two)) c.before.requires.1
+    sym (is_xor (a.x * 2) c.picked.result) ∙ ap (λ (v : ℕ). a.x * 2 ⊕ v) c.picked.ensures
+    ∙ times_x_is a.m a.p f.degree a.x (omega (arith, f.two)) c.before.requires.1
 
 pub doubled-spec : {M : Type 1} → statement M
 doubled-spec = tie.close (tie.spec mul-result sub-picked shr-picked picked-requires returns)

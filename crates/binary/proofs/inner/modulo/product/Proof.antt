@@ -2,10 +2,10 @@
 use Rattle.std.proofs.Common.{◌≡◌, ℕ, suc, ◌+◌, ◌-◌, ◌*◌, ◌/◌, ◌%◌, ◌^◌, ◌<◌, ◌≤◌, sym, ap, ◌∙◌, arith, rules}
 use lib.Bits.{bit_xor}
 use Rattle.binary.specs.Xor.{◌⊕◌, Degree}
-use Rattle.binary.proofs.Xor.{is-xor, zero_xor, xor-zero, xor_assoc}
-use Rattle.binary.specs.Product.{product, timesX}
+use Rattle.binary.proofs.Xor.{is_xor, zero_xor, xor-zero, xor_assoc}
+use Rattle.binary.specs.Product.{product, times_x}
 use Rattle.binary.proofs.Product.{product-zero}
-use Rattle.binary.proofs.Modulus.{timesX-lt, product-digit}
+use Rattle.binary.proofs.Modulus.{times_x_lt, product-digit}
 use Rattle.binary.proofs.inner.modulo.product.Statement.{statement}
 use Rattle.binary.proofs.inner.modulo.product.Tie as tie
 
@@ -26,16 +26,16 @@ start m p a b h l =
     let e : m - 0 ≡ m = omega arith in
     record { turns = omega arith; first = h; rest = rw e l; whole = zero_xor (product p a b) }
 
-turn : (m p w sum x y k d t : ℕ) → Degree m p → k < m → Summed m p w sum x y k → t ≡ y % 2 * x → d ≡ timesX p x
+turn : (m p w sum x y k d t : ℕ) → Degree m p → k < m → Summed m p w sum x y k → t ≡ y % 2 * x → d ≡ times_x p x
     → Summed m p w (bit_xor sum t) d (y / 2) (k + 1)
 turn m p w sum x y k d t dp l s et ed =
     let q : suc (m - (k + 1)) ≡ m - k = omega arith in
     let f : 2 ^ suc (m - (k + 1)) ≡ 2 ^ (m - k) = ap (λ (j : ℕ). 2 ^ j) q in
     record {
       turns = omega arith;
-      first = rw ed (timesX-lt m p dp x);
+      first = rw ed (times_x_lt m p dp x);
       rest = omega (arith, s.rest);
-      whole = ap (λ (v : ℕ). v ⊕ product p d (y / 2)) (sym (is-xor sum t)) ∙ xor_assoc sum t (product p d (y / 2))
+      whole = ap (λ (v : ℕ). v ⊕ product p d (y / 2)) (sym (is_xor sum t)) ∙ xor_assoc sum t (product p d (y / 2))
           ∙ ap (λ (v : ℕ). sum ⊕ v) ((rw (et, ed)) ∙ sym (product-digit m p dp x y s.first)) ∙ s.whole;
     }
 

@@ -6,13 +6,13 @@ use native.Mathlib.Omega.{arith}
 use borrow.Author.Count.{below_more}
 use borrow.Author.Rules.{rules}
 use lib.ListN.{get_or}
-use Rattle.algebra.proofs.Search.{some_one, some-none}
-use Rattle.field.specs.Refusal.{tooLarge, anyTooLarge}
+use Rattle.algebra.proofs.Search.{some_one, some_none}
+use Rattle.field.specs.Refusal.{too_large, any_too_large}
 use Rattle.field.proofs.inner.refusal.any_too_large.Statement.{statement}
 use Rattle.field.proofs.inner.refusal.any_too_large.Tie as tie
 
 abbrev invariant-loop : tie.invariant-loop
-invariant-loop p coefficients i₀ i-end i = (j : ℕ) → j < i → tooLarge p (get_or coefficients j 0) ≡ false
+invariant-loop p coefficients i₀ i-end i = (j : ℕ) → j < i → too_large p (get_or coefficients j 0) ≡ false
 
 abbrev decreases-loop : tie.decreases-loop
 decreases-loop p coefficients i₀ i-end i = i-end - i
@@ -30,7 +30,7 @@ too-large-requires : tie.Need-too-large-requires invariant-loop decreases-loop
 too-large-requires c κs = search rules
 
 returns : tie.Need-returns invariant-loop decreases-loop
-unfolding anyTooLarge
+unfolding any_too_large
 returns c =
     let l = c.before.before.before.before.loop in
     sym (some_one _ _ l.i (omega arith) (sym c.before.too_large.ensures ∙ c.if1.true))
@@ -47,11 +47,11 @@ loop-again c =
     below_more _ l.i l.invariant (sym c.before.too_large.ensures ∙ c.if1.false)
 
 returns-2 : tie.Need-returns-2 invariant-loop decreases-loop
-unfolding anyTooLarge
+unfolding any_too_large
 returns-2 c =
     let l = c.before.loop in
     let w = l.invariant in
-    sym (some-none _ _ (λ j h. w j (omega arith)))
+    sym (some_none _ _ (λ j h. w j (omega arith)))
 
 pub any-too-large-spec : {M : Type 1} → statement M
 any-too-large-spec =

@@ -2,7 +2,7 @@
 use Prim.Native.Nat.{◌-◌}
 use native.Mathlib.Omega.{arith}
 use borrow.Author.Rules.{rules}
-use Rattle.firmware.proofs.Copying.{Copied, copied-start, copied-turn, copied-end}
+use Rattle.firmware.proofs.Copying.{Copied, copied_start, copied_turn, copied_end}
 use Rattle.firmware.proofs.inner.lent.put_all.Statement.{statement}
 use Rattle.firmware.proofs.inner.lent.put_all.Tie as tie
 
@@ -13,7 +13,7 @@ abbrev decreases-loop : tie.decreases-loop
 decreases-loop values list₀ i₀ i-end list i = i-end - i
 
 loop-holds : tie.Need-loop-init invariant-loop decreases-loop
-loop-holds c = copied-start _ _ c.requires
+loop-holds c = copied_start _ _ c.requires
 
 mul-list : tie.Need-overflow-mul-list invariant-loop decreases-loop
 mul-list c = search rules
@@ -38,13 +38,13 @@ loop-less : tie.Need-loop-smaller invariant-loop decreases-loop
 loop-less c = search rules
 
 loop-again : tie.Need-loop-preserved invariant-loop decreases-loop
-loop-again c = copied-turn _ _ _ _ c.before.before.loop.invariant (omega arith)
+loop-again c = copied_turn _ _ _ _ c.before.before.loop.invariant (omega arith)
 
 same_length : tie.Need-same-length invariant-loop decreases-loop
 same_length c = c.before.loop.invariant.long
 
 returns : tie.Need-returns invariant-loop decreases-loop
-returns c = copied-end _ _ _ _ c.before.loop.invariant (omega arith)
+returns c = copied_end _ _ _ _ c.before.loop.invariant (omega arith)
 
 pub put-all-spec : {M : Type 1} → statement M
 put-all-spec =

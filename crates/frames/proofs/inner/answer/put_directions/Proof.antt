@@ -3,20 +3,20 @@ use mathlib.Core.Path.{◌≡◌, refl}
 use Prim.Native.Nat.{◌-◌, ◌≤◌}
 use native.Mathlib.Omega.{arith}
 use borrow.Author.Rules.{rules}
-use Rattle.frames.specs.Text.{up_to, putBytes}
-use Rattle.frames.specs.Answer.{directionBytes}
-use Rattle.frames.proofs.Writing.{put-none, put-more, put_all}
+use Rattle.frames.specs.Text.{up_to, put_bytes}
+use Rattle.frames.specs.Answer.{direction_bytes}
+use Rattle.frames.proofs.Writing.{put_none, put_more, put_all}
 use Rattle.frames.proofs.inner.answer.put_directions.Statement.{statement}
 use Rattle.frames.proofs.inner.answer.put_directions.Tie as tie
 
 abbrev invariant-loop : tie.invariant-loop
-invariant-loop out₀ count directions i₀ out i = (i ≤ count) × (out ≡ putBytes out₀ 6 (up_to (directionBytes directions) i))
+invariant-loop out₀ count directions i₀ out i = (i ≤ count) × (out ≡ put_bytes out₀ 6 (up_to (direction_bytes directions) i))
 
 abbrev decreases-loop : tie.decreases-loop
 decreases-loop out₀ count directions i₀ out i = count - i
 
 loop-holds : tie.Need-loop-init invariant-loop decreases-loop
-loop-holds c = (omega arith, put-none _ _)
+loop-holds c = (omega arith, put_none _ _)
 
 mul-put-element : tie.Need-overflow-mul-put-element invariant-loop decreases-loop
 mul-put-element c = search rules
@@ -42,7 +42,7 @@ loop-less c = search rules
 loop-again : tie.Need-loop-preserved invariant-loop decreases-loop
 loop-again c =
     let l = c.before.before.before.loop in
-    (omega arith, put-more _ _ 2 6 l.i _ (λ i. refl) l.invariant.1 c.put-element.ensures refl)
+    (omega arith, put_more _ _ 2 6 l.i _ (λ i. refl) l.invariant.1 c.put-element.ensures refl)
 
 returns : tie.Need-returns invariant-loop decreases-loop
 returns c =

@@ -1,6 +1,6 @@
 -- `put_roots_answer` meets its contract. Assumes nothing.
 use borrow.Author.Rules.{rules}
-use Rattle.frames.proofs.Answered.{roots-refused, roots-solved, roots_few}
+use Rattle.frames.proofs.Answered.{roots_refused, roots_solved, roots_few}
 use Rattle.frames.proofs.inner.answer.put_roots_answer.Statement.{statement}
 use Rattle.frames.proofs.inner.answer.put_roots_answer.Tie as tie
 
@@ -19,12 +19,12 @@ put-solved-requires c κs = roots_few c.before.before.before.before.before.befor
 returns : tie.Need-returns
 returns c =
     let s = c.put-refusal.ensures in
-    roots-refused c.before.before.before.before.before.before.before.args.answer _ _ c.before.before.before.count.given.1 s.0 s.1
+    roots_refused c.before.before.before.before.before.before.before.args.answer _ _ c.before.before.before.count.given.1 s.0 s.1
 
 returns-2 : tie.Need-returns-2
 returns-2 c =
     let s = c.put-solved.ensures in
-    roots-solved c.before.before.before.before.before.before.before.args.answer _ _ c.before.before.before.count2.given.1 s.0 s.1
+    roots_solved c.before.before.before.before.before.before.before.args.answer _ _ c.before.before.before.count2.given.1 s.0 s.1
 
 pub put-roots-answer-spec : {M : Type 1} → statement M
 put-roots-answer-spec =

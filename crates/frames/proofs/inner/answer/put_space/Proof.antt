@@ -2,7 +2,7 @@
 use mathlib.Core.Path.{refl}
 use mathlib.Core.List.{[], ◌∷◌}
 use borrow.Author.Rules.{rules}
-use Rattle.frames.specs.Text.{elementBytes}
+use Rattle.frames.specs.Text.{element_bytes}
 use Rattle.frames.proofs.Writing.{put_then}
 use Rattle.frames.proofs.inner.answer.put_space.Statement.{statement}
 use Rattle.frames.proofs.inner.answer.put_space.Tie as tie
@@ -34,7 +34,7 @@ add-result c = search rules
 returns : tie.Need-returns
 returns c =
     let a = c.before.before.before.before.before.before.before.before.before.before.before.before.args in
-    let b = elementBytes a.base in
+    let b = element_bytes a.base in
     let kind = c.before.before.before.before.before.before.before.before.before.before.put_byte.ensures in
     let solved = put_then _ (2 ∷ []) (0 ∷ []) 0 1 kind c.before.before.before.before.before.before.before.before.put-byte2.ensures refl in
     let found = put_then _ (2 ∷ 0 ∷ []) (a.found ∷ []) 0 2 solved c.before.before.before.before.before.before.put-byte3.ensures refl in

@@ -3,8 +3,8 @@ use mathlib.Core.Path.{sym, ◌∙◌}
 use native.Mathlib.Omega.{arith}
 use borrow.Author.Rules.{rules}
 use lib.Seq.{length-take-le}
-use Rattle.frames.proofs.Coefficients.{is-well-formed, count-within}
-use Rattle.frames.proofs.Called.{line_refused, line-called}
+use Rattle.frames.proofs.Coefficients.{is_well_formed, count_within}
+use Rattle.frames.proofs.Called.{line_refused, line_called}
 use Rattle.frames.proofs.inner.call.put_answer.Statement.{statement}
 use Rattle.frames.proofs.inner.call.put_answer.Tie as tie
 
@@ -20,30 +20,30 @@ returns c =
     line_refused _ _ _ c.before.before.before.refusal.ensures c.before.before.if1.true s.0 s.1
 
 coefficients-of-requires : tie.Need-coefficients-of-requires
-coefficients-of-requires c κs = is-well-formed _ (sym c.before.refusal.ensures ∙ c.if1.false)
+coefficients-of-requires c κs = is_well_formed _ (sym c.before.refusal.ensures ∙ c.if1.false)
 
 count-of-requires : tie.Need-count-of-requires
 count-of-requires c κs =
-    let w = is-well-formed c.before.before.before.before.args.line.now (sym c.before.before.refusal.ensures ∙ c.before.if1.false) in
+    let w = is_well_formed c.before.before.before.before.args.line.now (sym c.before.before.refusal.ensures ∙ c.before.if1.false) in
     omega (arith, w.agrees)
 
 kind-of-requires : tie.Need-kind-of-requires
 kind-of-requires c κs =
-    let w = is-well-formed c.before.before.before.before.before.before.args.line.now (sym c.before.before.before.before.refusal.ensures ∙ c.before.before.before.if1.false) in
+    let w = is_well_formed c.before.before.before.before.before.before.args.line.now (sym c.before.before.before.before.refusal.ensures ∙ c.before.before.before.if1.false) in
     omega (arith, w.agrees)
 
 polynomial-of-requires : tie.Need-polynomial-of-requires
 polynomial-of-requires c κs =
-    let w = is-well-formed c.before.before.before.before.before.before.before.args.line.now (sym c.before.before.before.before.before.refusal.ensures ∙ c.before.before.before.before.if1.false) in
+    let w = is_well_formed c.before.before.before.before.before.before.before.args.line.now (sym c.before.before.before.before.before.refusal.ensures ∙ c.before.before.before.before.if1.false) in
     omega (arith, w.agrees)
 
 array-share-prefix-coefficients : tie.Need-array-share-prefix-coefficients
 array-share-prefix-coefficients c =
-    count-within c.before.before.before.before.before.before.before.before.args.line.now _ _ (sym c.before.before.before.before.before.before.refusal.ensures ∙ c.before.before.before.before.before.if1.false) c.before.before.before.before.coefficients-of.ensures c.before.before.before.count_of.ensures.0
+    count_within c.before.before.before.before.before.before.before.before.args.line.now _ _ (sym c.before.before.before.before.before.before.refusal.ensures ∙ c.before.before.before.before.before.if1.false) c.before.before.before.before.coefficients-of.ensures c.before.before.before.count_of.ensures.0
 
 slice-aggregate-put-called : tie.Need-slice-aggregate-put-called
 slice-aggregate-put-called c =
-    sym (length-take-le _ _ (count-within c.before.before.before.before.before.before.before.before.before.args.line.now _ _ (sym c.before.before.before.before.before.before.before.refusal.ensures ∙ c.before.before.before.before.before.before.if1.false) c.before.before.before.before.before.coefficients-of.ensures c.before.before.before.before.count_of.ensures.0))
+    sym (length-take-le _ _ (count_within c.before.before.before.before.before.before.before.before.before.args.line.now _ _ (sym c.before.before.before.before.before.before.before.refusal.ensures ∙ c.before.before.before.before.before.before.if1.false) c.before.before.before.before.before.coefficients-of.ensures c.before.before.before.before.count_of.ensures.0))
 
 put-called-requires : tie.Need-put-called-requires
 put-called-requires c κs = search rules
@@ -51,7 +51,7 @@ put-called-requires c κs = search rules
 returns-2 : tie.Need-returns-2
 returns-2 c =
     let s = c.put-called.ensures in
-    line-called c.before.before.before.before.before.before.before.before.before.before.args.line.now _ _ _ _ _ (sym c.before.before.before.before.before.before.before.before.refusal.ensures ∙ c.before.before.before.before.before.before.before.if1.false) c.before.before.before.kind-of.ensures c.before.before.polynomial-of.ensures c.before.before.before.before.before.before.coefficients-of.ensures c.before.before.before.before.before.count_of.ensures.0 s.0 s.1
+    line_called c.before.before.before.before.before.before.before.before.before.before.args.line.now _ _ _ _ _ (sym c.before.before.before.before.before.before.before.before.refusal.ensures ∙ c.before.before.before.before.before.before.before.if1.false) c.before.before.before.kind-of.ensures c.before.before.polynomial-of.ensures c.before.before.before.before.before.before.coefficients-of.ensures c.before.before.before.before.before.count_of.ensures.0 s.0 s.1
 
 pub put-answer-spec : {M : Type 1} → statement M
 put-answer-spec =

@@ -1,6 +1,6 @@
 -- `capital` meets its contract. Assumes nothing.
 use borrow.Author.Rules.{rules}
-use Rattle.frames.proofs.Characters.{as-decimal, as-letter}
+use Rattle.frames.proofs.Characters.{as_decimal, as_letter}
 use Rattle.frames.proofs.inner.character.capital.Statement.{statement}
 use Rattle.frames.proofs.inner.character.capital.Tie as tie
 
@@ -11,7 +11,7 @@ cast-result : tie.Need-overflow-cast-result
 cast-result c = search rules
 
 returns : tie.Need-returns
-returns c = as-decimal _ c.if1.true
+returns c = as_decimal _ c.if1.true
 
 add-result-2 : tie.Need-overflow-add-result-2
 add-result-2 c = search rules
@@ -20,7 +20,7 @@ cast-result-2 : tie.Need-overflow-cast-result-2
 cast-result-2 c = search rules
 
 returns-2 : tie.Need-returns-2
-returns-2 c = as-letter _ c.if1.false
+returns-2 c = as_letter _ c.if1.false
 
 pub capital-spec : {M : Type 1} → statement M
 capital-spec =

@@ -5,15 +5,15 @@ use native.Mathlib.Omega.{arith}
 use borrow.Author.Rules.{rules}
 use lib.ListN.{get_or, replicate}
 use Rattle.algebra.proofs.Filled.{Filled, filled_none, filled_put}
-use Rattle.algebra.proofs.Places.{filled-padded}
-use Rattle.frames.specs.Limits.{mostCounted}
-use Rattle.frames.specs.Frame.{coefficientsOf}
-use Rattle.frames.proofs.Coefficients.{coefficient-count, coefficient-is}
+use Rattle.algebra.proofs.Places.{filled_padded}
+use Rattle.frames.specs.Limits.{most_counted}
+use Rattle.frames.specs.Frame.{coefficients_of}
+use Rattle.frames.proofs.Coefficients.{coefficient_count, coefficient_is}
 use Rattle.frames.proofs.inner.frame.coefficients_of.Statement.{statement}
 use Rattle.frames.proofs.inner.frame.coefficients_of.Tie as tie
 
 abbrev invariant-loop : tie.invariant-loop
-invariant-loop line out₀ end i₀ out i = (i ≤ end) × Filled (λ j. get_or (coefficientsOf line) j 0) (replicate mostCounted 0) out i
+invariant-loop line out₀ end i₀ out i = (i ≤ end) × Filled (λ j. get_or (coefficients_of line) j 0) (replicate most_counted 0) out i
 
 abbrev decreases-loop : tie.decreases-loop
 decreases-loop line out₀ end i₀ out i = end - i
@@ -47,7 +47,7 @@ loop-again c =
     let w = c.before.before.before.before.before.requires in
     let n = c.before.before.before.count_of.ensures.0 in (
       omega arith,
-      filled_put _ _ _ l.i _ (omega (arith, w.agrees, w.short, n)) (c.coefficient-at.ensures ∙ coefficient-is _ l.i (omega (arith, n))) l.invariant.1,
+      filled_put _ _ _ l.i _ (omega (arith, w.agrees, w.short, n)) (c.coefficient-at.ensures ∙ coefficient_is _ l.i (omega (arith, n))) l.invariant.1,
     )
 
 returns : tie.Need-returns invariant-loop decreases-loop
@@ -56,7 +56,7 @@ returns c =
     let line = c.before.before.before.before.args.line.now in
     let w = c.before.before.before.before.requires in
     let n = c.before.before.count_of.ensures.0 in
-    filled-padded mostCounted (coefficientsOf line) _ l.i (omega (arith, coefficient-count line, w.agrees, w.short)) (omega (arith, coefficient-count line, n)) l.invariant.1
+    filled_padded most_counted (coefficients_of line) _ l.i (omega (arith, coefficient_count line, w.agrees, w.short)) (omega (arith, coefficient_count line, n)) l.invariant.1
 
 pub coefficients-of-spec : {M : Type 1} → statement M
 coefficients-of-spec =

@@ -8,13 +8,13 @@ use borrow.Author.Rules.{rules}
 use borrow.Author.Tests.{eq-eqb, ne_eqb}
 use lib.Dec.{eqb}
 use lib.ListN.{get_or}
-use Rattle.algebra.proofs.Search.{some_one, some-none}
-use Rattle.frames.specs.Frame.{digitValue, anotherCharacter}
+use Rattle.algebra.proofs.Search.{some_one, some_none}
+use Rattle.frames.specs.Frame.{digit_value, another_character}
 use Rattle.frames.proofs.inner.malformed.another_character.Statement.{statement}
 use Rattle.frames.proofs.inner.malformed.another_character.Tie as tie
 
 abbrev invariant-loop : tie.invariant-loop
-invariant-loop line i₀ i-end i = (j : ℕ) → j < i → eqb (digitValue (get_or line j 0)) 16 ≡ false
+invariant-loop line i₀ i-end i = (j : ℕ) → j < i → eqb (digit_value (get_or line j 0)) 16 ≡ false
 
 abbrev decreases-loop : tie.decreases-loop
 decreases-loop line i₀ i-end i = i-end - i
@@ -29,7 +29,7 @@ digit-value-requires : tie.Need-digit-value-requires invariant-loop decreases-lo
 digit-value-requires c κs = search rules
 
 returns : tie.Need-returns invariant-loop decreases-loop
-unfolding anotherCharacter
+unfolding another_character
 returns c =
     let l = c.before.before.before.before.loop in
     sym (some_one _ _ l.i (omega arith) (eq-eqb _ _ (sym c.before.digit_value.ensures.0 ∙ c.if1.true)))
@@ -46,10 +46,10 @@ loop-again c =
     below_more _ l.i l.invariant (ne_eqb _ _ (λ e. c.if1.false (c.before.digit_value.ensures.0 ∙ e)))
 
 returns-2 : tie.Need-returns-2 invariant-loop decreases-loop
-unfolding anotherCharacter
+unfolding another_character
 returns-2 c =
     let w = c.before.loop.invariant in
-    sym (some-none _ _ (λ j h. w j (omega arith)))
+    sym (some_none _ _ (λ j h. w j (omega arith)))
 
 pub another-character-spec : {M : Type 1} → statement M
 another-character-spec =

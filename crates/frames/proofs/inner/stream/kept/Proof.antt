@@ -5,7 +5,7 @@ use native.Mathlib.Omega.{arith}
 use borrow.Author.Rules.{rules}
 use lib.ListN.{length, take}
 use lib.Seq.{sets, length-sets}
-use Rattle.frames.proofs.Keeping.{kept-turn, kept-all}
+use Rattle.frames.proofs.Keeping.{kept_turn, kept_all}
 use Rattle.frames.proofs.inner.stream.kept.Statement.{statement}
 use Rattle.frames.proofs.inner.stream.kept.Tie as tie
 
@@ -43,7 +43,7 @@ loop-less c = search rules
 loop-again : tie.Need-loop-preserved invariant-loop decreases-loop
 loop-again c =
     let l = c.before.before.loop in
-    (omega arith, kept-turn _ _ _ l.i (omega (arith, c.before.before.before.room.ensures)) l.invariant.1)
+    (omega arith, kept_turn _ _ _ l.i (omega (arith, c.before.before.before.room.ensures)) l.invariant.1)
 
 lengthened-requires : tie.Need-lengthened-requires invariant-loop decreases-loop
 lengthened-requires c κs = search rules
@@ -57,7 +57,7 @@ same_length c =
 returns : tie.Need-returns invariant-loop decreases-loop
 returns c =
     let l = c.before.before.loop in
-    (c.lengthened.ensures, kept-all _ _ _ _ l.i c.before.before.before.room.ensures (omega arith) l.invariant.0 l.invariant.1)
+    (c.lengthened.ensures, kept_all _ _ _ _ l.i c.before.before.before.room.ensures (omega arith) l.invariant.0 l.invariant.1)
 
 pub kept-spec : {M : Type 1} → statement M
 kept-spec =

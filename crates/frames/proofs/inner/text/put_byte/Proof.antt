@@ -1,6 +1,6 @@
 -- `put_byte` meets its contract. Assumes nothing.
 use borrow.Author.Rules.{rules}
-use Rattle.frames.proofs.Writing.{put-digits}
+use Rattle.frames.proofs.Writing.{put_digits}
 use Rattle.frames.proofs.inner.text.put_byte.Statement.{statement}
 use Rattle.frames.proofs.inner.text.put_byte.Tie as tie
 
@@ -26,7 +26,7 @@ element-write-out-2 : tie.Need-element-write-out-2
 element-write-out-2 c = search rules
 
 returns : tie.Need-returns
-returns c = put-digits _ _ _ _ _ c.before.capital.ensures c.capital2.ensures
+returns c = put_digits _ _ _ _ _ c.before.capital.ensures c.capital2.ensures
 
 pub put-byte-spec : {M : Type 1} → statement M
 put-byte-spec =

@@ -7,7 +7,7 @@ use borrow.Author.Rules.{rules}
 use Rattle.algebra.proofs.Filled.{Filled, filled_none}
 use Rattle.linear.specs.Limits.{places}
 use Rattle.linear.specs.Elimination.{clear}
-use Rattle.linear.proofs.Clear.{plus, clear-turn, clear-end}
+use Rattle.linear.proofs.Clear.{plus, clear-turn, clear_end}
 use Rattle.linear.proofs.inner.elimination.cleared.Statement.{statement}
 use Rattle.linear.proofs.inner.elimination.cleared.Tie as tie
 
@@ -59,7 +59,7 @@ array-write-out-2 : tie.Need-array-write-out-2 invariant-loop decreases-loop
 array-write-out-2 c = search rules
 
 returns : tie.Need-returns invariant-loop decreases-loop
-returns c = clear-end _ _ _ _ c.before.loop.i (omega arith) c.before.loop.invariant
+returns c = clear_end _ _ _ _ c.before.loop.i (omega arith) c.before.loop.invariant
 
 pub cleared-spec : {M : Type 1} → statement M
 cleared-spec =

@@ -2,7 +2,7 @@
 use Prim.Native.Nat.{◌-◌}
 use native.Mathlib.Omega.{arith}
 use borrow.Author.Rules.{rules}
-use Rattle.linear.proofs.Doubling.{Doubled, doubled-start, doubled-turn, doubled-end}
+use Rattle.linear.proofs.Doubling.{Doubled, doubled_start, doubled_turn, doubled_end}
 use Rattle.linear.proofs.inner.listing.doubled.Statement.{statement}
 use Rattle.linear.proofs.inner.listing.doubled.Tie as tie
 
@@ -13,7 +13,7 @@ abbrev decreases-loop : tie.decreases-loop
 decreases-loop list₀ size d i₀ list i = size - i
 
 loop-holds : tie.Need-loop-init invariant-loop decreases-loop
-loop-holds c = doubled-start _ _ _
+loop-holds c = doubled_start _ _ _
 
 mul-list : tie.Need-overflow-mul-list invariant-loop decreases-loop
 mul-list c = search rules
@@ -37,13 +37,13 @@ loop-less : tie.Need-loop-smaller invariant-loop decreases-loop
 loop-less c = search rules
 
 loop-again : tie.Need-loop-preserved invariant-loop decreases-loop
-loop-again c = doubled-turn c.before.before.loop.invariant (omega arith) (omega arith)
+loop-again c = doubled_turn c.before.before.loop.invariant (omega arith) (omega arith)
 
 same_length : tie.Need-same-length invariant-loop decreases-loop
 same_length c = c.before.loop.invariant.long
 
 returns : tie.Need-returns invariant-loop decreases-loop
-returns c = doubled-end c.before.loop.invariant (omega arith)
+returns c = doubled_end c.before.loop.invariant (omega arith)
 
 pub doubled-spec : {M : Type 1} → statement M
 doubled-spec =

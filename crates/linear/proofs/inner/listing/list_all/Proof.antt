@@ -6,7 +6,7 @@ use lib.ListN.{length-set}
 use lib.Pow.{pow_pos, pow_mono}
 use borrow.Author.Rules.{rules}
 use Rattle.linear.specs.Limits.{places}
-use Rattle.linear.proofs.Doubling.{Listing, listing_start, listing-turn, listing-room, listing-end}
+use Rattle.linear.proofs.Doubling.{Listing, listing_start, listing_turn, listing_room, listing_end}
 use Rattle.linear.proofs.inner.listing.list_all.Statement.{statement}
 use Rattle.linear.proofs.inner.listing.list_all.Tie as tie
 
@@ -35,7 +35,7 @@ entry-requires-2 : tie.Need-entry-requires-2 invariant-loop decreases-loop
 entry-requires-2 c κs = c.before.before.before.before.before.requires.3 c.before.before.loop.j (omega arith)
 
 doubled-requires : tie.Need-doubled-requires invariant-loop decreases-loop
-doubled-requires c κs = listing-room c.before.before.before.loop.invariant (omega arith)
+doubled-requires c κs = listing_room c.before.before.before.loop.invariant (omega arith)
 
 mul-size : tie.Need-overflow-mul-size invariant-loop decreases-loop
 mul-size c =
@@ -52,13 +52,13 @@ loop-less c = search rules
 loop-again : tie.Need-loop-preserved invariant-loop decreases-loop
 loop-again c =
     let d = c.before.before.doubled in
-    listing-turn c.before.before.before.before.before.before.loop.invariant _ _ (omega arith) (search rules) c.before.before.before.entry2.ensures d.auto.0 d.ensures
+    listing_turn c.before.before.before.before.before.before.loop.invariant _ _ (omega arith) (search rules) c.before.before.before.entry2.ensures d.auto.0 d.ensures
 
 same_length : tie.Need-same-length invariant-loop decreases-loop
 same_length c = c.before.loop.invariant.long ∙ simp length-set
 
 returns : tie.Need-returns invariant-loop decreases-loop
-returns c = listing-end _ _ _ _ _ _ c.before.loop.j _ c.before.loop.invariant (omega arith)
+returns c = listing_end _ _ _ _ _ _ c.before.loop.j _ c.before.loop.invariant (omega arith)
 
 pub list-all-spec : {M : Type 1} → statement M
 list-all-spec =

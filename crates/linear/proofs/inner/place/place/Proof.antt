@@ -7,7 +7,7 @@ use lib.ListN.{drop}
 use Rattle.binary.specs.Xor.{◌⊕◌}
 use Rattle.linear.specs.Limits.{places}
 use Rattle.linear.specs.Directions.{choose}
-use Rattle.linear.proofs.Choose.{choose-next, choose-done}
+use Rattle.linear.proofs.Choose.{choose_next, choose_done}
 use Rattle.linear.proofs.inner.place.place.Statement.{statement}
 use Rattle.linear.proofs.inner.place.place.Tie as tie
 
@@ -38,10 +38,10 @@ loop-less c = search rules
 loop-again : tie.Need-loop-preserved invariant-loop decreases-loop
 loop-again c =
     let l = c.before.before.loop in
-    (omega arith, choose-next _ l.i l.sum _ l.rest _ (omega arith) c.picked.ensures l.invariant.1)
+    (omega arith, choose_next _ l.i l.sum _ l.rest _ (omega arith) c.picked.ensures l.invariant.1)
 
 returns : tie.Need-returns invariant-loop decreases-loop
-returns c = choose-done _ c.before.loop.i _ c.before.loop.rest _ (omega arith) c.before.loop.invariant.1
+returns c = choose_done _ c.before.loop.i _ c.before.loop.rest _ (omega arith) c.before.loop.invariant.1
 
 pub place-spec : {M : Type 1} → statement M
 place-spec =

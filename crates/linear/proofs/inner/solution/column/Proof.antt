@@ -3,10 +3,10 @@ use mathlib.Core.Path.{◌≡◌, refl, ap, ap₂, ◌∙◌}
 use Prim.Native.Nat.{◌-◌, ◌*◌, ◌≤◌}
 use native.Mathlib.Omega.{arith}
 use borrow.Author.Rules.{rules}
-use Rattle.binary.proofs.Bit.{bit-lt}
+use Rattle.binary.proofs.Bit.{bit_lt}
 use Rattle.linear.specs.Limits.{places}
 use Rattle.linear.specs.Reading.{column}
-use Rattle.linear.proofs.Reading.{column-more}
+use Rattle.linear.proofs.Reading.{column_more}
 use Rattle.linear.proofs.inner.solution.column.Statement.{statement}
 use Rattle.linear.proofs.inner.solution.column.Tie as tie
 
@@ -39,7 +39,7 @@ power-of-two-requires : tie.Need-power-of-two-requires invariant-loop decreases-
 power-of-two-requires c κs = c.before.before.before.before.before.requires.1 c.before.before.before.before.loop.i (omega arith)
 
 picked-requires : tie.Need-picked-requires invariant-loop decreases-loop
-picked-requires c κs = rw c.before.before.bit.ensures (bit-lt _ _)
+picked-requires c κs = rw c.before.before.bit.ensures (bit_lt _ _)
 
 add-i : tie.Need-overflow-add-i invariant-loop decreases-loop
 add-i c = search rules
@@ -51,7 +51,7 @@ loop-again : tie.Need-loop-preserved invariant-loop decreases-loop
 loop-again c =
     let l = c.before.before.before.before.before.before.loop in (
       omega arith,
-      column-more _ _ l.i l.sum _ l.invariant.1
+      column_more _ _ l.i l.sum _ l.invariant.1
           (c.picked.ensures ∙ ap₂ ◌*◌ c.before.before.before.bit.ensures c.before.power-of-two.ensures),
     )
 

@@ -7,7 +7,7 @@ use borrow.Author.Count.{below_more}
 use borrow.Author.Rules.{rules}
 use Rattle.linear.specs.Limits.{places}
 use Rattle.linear.specs.Elimination.{row, mark, candidate}
-use Rattle.linear.proofs.Reading.{broken-here, broken-nowhere}
+use Rattle.linear.proofs.Reading.{broken_here, broken_nowhere}
 use Rattle.linear.proofs.inner.solution.contradicts.Statement.{statement}
 use Rattle.linear.proofs.inner.solution.contradicts.Tie as tie
 
@@ -38,7 +38,7 @@ may-pivot-requires c κs = search rules
 returns : tie.Need-returns invariant-loop decreases-loop
 returns c =
     let l = c.before.before.before.before.before.loop in
-    broken-here _ places _ (search rules) l.i (omega arith) (sym c.before.may-pivot.ensures ∙ c.if1.true)
+    broken_here _ places _ (search rules) l.i (omega arith) (sym c.before.may-pivot.ensures ∙ c.if1.true)
 
 add-i : tie.Need-overflow-add-i invariant-loop decreases-loop
 add-i c = search rules
@@ -56,7 +56,7 @@ loop-again c = (
 returns-2 : tie.Need-returns-2 invariant-loop decreases-loop
 returns-2 c =
     let w = c.before.loop.invariant in
-    broken-nowhere _ places _ (search rules) (λ j l. w.1 j (omega arith))
+    broken_nowhere _ places _ (search rules) (λ j l. w.1 j (omega arith))
 
 pub contradicts-spec : {M : Type 1} → statement M
 contradicts-spec =

@@ -4,19 +4,19 @@ use Prim.Native.Nat.{◌-◌, ◌≤◌}
 use native.Mathlib.Omega.{arith}
 use borrow.Author.Rules.{rules}
 use Rattle.linear.specs.Limits.{places}
-use Rattle.linear.specs.Reading.{pivotColumns}
-use Rattle.linear.proofs.Reading.{pivotColumns-more}
+use Rattle.linear.specs.Reading.{pivot_columns}
+use Rattle.linear.proofs.Reading.{pivot_columns_more}
 use Rattle.linear.proofs.inner.solution.pivot_columns.Statement.{statement}
 use Rattle.linear.proofs.inner.solution.pivot_columns.Tie as tie
 
 abbrev invariant-loop : tie.invariant-loop
-invariant-loop s columns₀ i₀ columns i = (i ≤ places) × (columns ≡ pivotColumns s i)
+invariant-loop s columns₀ i₀ columns i = (i ≤ places) × (columns ≡ pivot_columns s i)
 
 abbrev decreases-loop : tie.decreases-loop
 decreases-loop s columns₀ i₀ columns i = places - i
 
 loop-holds : tie.Need-loop-init invariant-loop decreases-loop
-unfolding pivotColumns
+unfolding pivot_columns
 loop-holds c = (omega arith, refl)
 
 mul-power-of-two : tie.Need-overflow-mul-power-of-two invariant-loop decreases-loop
@@ -39,7 +39,7 @@ loop-less c = search rules
 loop-again : tie.Need-loop-preserved invariant-loop decreases-loop
 loop-again c =
     let l = c.before.before.before.loop in
-    (omega arith, pivotColumns-more _ l.i l.columns _ l.invariant.1 c.power-of-two.ensures)
+    (omega arith, pivot_columns_more _ l.i l.columns _ l.invariant.1 c.power-of-two.ensures)
 
 returns : tie.Need-returns invariant-loop decreases-loop
 returns c =

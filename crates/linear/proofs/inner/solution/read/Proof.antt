@@ -6,10 +6,10 @@ use native.Mathlib.Omega.{arith}
 use borrow.Author.Rules.{rules}
 use Rattle.binary.specs.Bit.{bit}
 use Rattle.linear.specs.Limits.{places}
-use Rattle.linear.specs.Reading.{pivotColumns}
-use Rattle.linear.proofs.Reading.{freeDirection-is}
-use Rattle.linear.proofs.Taken.{taken-bit, free-bit}
-use Rattle.linear.proofs.Gathered.{Gathered, gathered-start, gathered-skip, gathered-push, gathered-solution}
+use Rattle.linear.specs.Reading.{pivot_columns}
+use Rattle.linear.proofs.Reading.{free_direction_is}
+use Rattle.linear.proofs.Taken.{taken-bit, free_bit}
+use Rattle.linear.proofs.Gathered.{Gathered, gathered_start, gathered_skip, gathered_push, gathered_solution}
 use Rattle.linear.proofs.inner.solution.read.Statement.{statement}
 use Rattle.linear.proofs.inner.solution.read.Tie as tie
 
@@ -26,7 +26,7 @@ pivot-columns-requires : tie.Need-pivot-columns-requires invariant-loop decrease
 pivot-columns-requires c κs = search rules
 
 loop-holds : tie.Need-loop-init invariant-loop decreases-loop
-loop-holds c = gathered-start _ _
+loop-holds c = gathered_start _ _
 
 bit-requires : tie.Need-bit-requires invariant-loop decreases-loop
 bit-requires c κs = search rules
@@ -54,7 +54,7 @@ loop-less c = search rules
 
 -- the code's bit is that of the definition's pivot columns
 pivot-bit : (c : tie.After-bit invariant-loop decreases-loop)
-    → c.bit.result ≡ bit c.before.before.loop.t (pivotColumns c.before.before.before.before.before.args.s places)
+    → c.bit.result ≡ bit c.before.before.loop.t (pivot_columns c.before.before.before.before.before.args.s places)
 pivot-bit c = c.bit.ensures ∙ ap (bit c.before.before.loop.t) c.before.before.before.pivot-columns.ensures
 
 loop-again : tie.Need-loop-preserved invariant-loop decreases-loop
@@ -64,16 +64,16 @@ loop-again c =
     let b = pivot-bit c.before in
     ⊎_elim
     (λ w. rw (w.3, w.4)
-    (gathered-push a.s a.m l.t l.directions l.count (omega arith) l.invariant _
-    (free-bit places a.s (search rules) l.t (sym b ∙ w.0.taken)) (omega arith)
-    (freeDirection-is places a.s l.t _ _ (search rules) w.1.ensures w.2.ensures)))
+    (gathered_push a.s a.m l.t l.directions l.count (omega arith) l.invariant _
+    (free_bit places a.s (search rules) l.t (sym b ∙ w.0.taken)) (omega arith)
+    (free_direction_is places a.s l.t _ _ (search rules) w.1.ensures w.2.ensures)))
     (λ w. rw (w.1, w.2)
-    (gathered-skip a.s a.m l.t l.directions l.count (omega arith) l.invariant
+    (gathered_skip a.s a.m l.t l.directions l.count (omega arith) l.invariant
     (taken-bit places a.s (search rules) l.t (λ z. w.0.left (b ∙ z)))))
     c.if1.branch
 
 returns : tie.Need-returns invariant-loop decreases-loop
-returns c = gathered-solution _ _ c.before.loop.t _ _ _ _ (omega arith) c.before.loop.invariant c.before.before.before.column.ensures
+returns c = gathered_solution _ _ c.before.loop.t _ _ _ _ (omega arith) c.before.loop.invariant c.before.before.before.column.ensures
 
 pub read_spec : {M : Type 1} → statement M
 read_spec =

@@ -4,19 +4,19 @@ use Prim.Native.Nat.{ℕ, ◌-◌, ◌≤◌}
 use native.Mathlib.Omega.{arith}
 use borrow.Author.Rules.{rules}
 use lib.ListN.{get_or}
-use Rattle.linear.specs.Matrix.{withColumn}
-use Rattle.linear.proofs.Matrix.{columnsDone, columns-none, columns-more, columns-all}
+use Rattle.linear.specs.Matrix.{with_column}
+use Rattle.linear.proofs.Matrix.{columns_done, columns_none, columns_more, columns_all}
 use Rattle.linear.proofs.inner.system.rows_of.Statement.{statement}
 use Rattle.linear.proofs.inner.system.rows_of.Tie as tie
 
 abbrev invariant-loop : tie.invariant-loop
-invariant-loop m right columns rows₀ j₀ rows j = (j ≤ m) × (rows ≡ columnsDone (λ (k : ℕ). get_or columns k 0) j)
+invariant-loop m right columns rows₀ j₀ rows j = (j ≤ m) × (rows ≡ columns_done (λ (k : ℕ). get_or columns k 0) j)
 
 abbrev decreases-loop : tie.decreases-loop
 decreases-loop m right columns rows₀ j₀ rows j = m - j
 
 loop-holds : tie.Need-loop-init invariant-loop decreases-loop
-loop-holds c = (omega arith, sym (columns-none _))
+loop-holds c = (omega arith, sym (columns_none _))
 
 cast-column : tie.Need-overflow-cast-column invariant-loop decreases-loop
 cast-column c = search rules
@@ -39,7 +39,7 @@ loop-less c = search rules
 loop-again : tie.Need-loop-preserved invariant-loop decreases-loop
 loop-again c =
     let l = c.before.before.loop in
-    (omega arith, c.with-column.ensures ∙ ap (withColumn l.j _) l.invariant.1 ∙ columns-more _ l.j)
+    (omega arith, c.with-column.ensures ∙ ap (with_column l.j _) l.invariant.1 ∙ columns_more _ l.j)
 
 with-column-requires-2 : tie.Need-with-column-requires-2 invariant-loop decreases-loop
 with-column-requires-2 c κs = search rules
@@ -48,7 +48,7 @@ returns : tie.Need-returns invariant-loop decreases-loop
 returns c =
     let l = c.before.before.loop in
     let e : l.j ≡ c.before.before.before.args.m = omega arith in
-    c.with-column2.ensures ∙ ap (withColumn _ _) (rw e at l.invariant.1) ∙ columns-all _ _ _
+    c.with-column2.ensures ∙ ap (with_column _ _) (rw e at l.invariant.1) ∙ columns_all _ _ _
 
 pub rows-of-spec : {M : Type 1} → statement M
 rows-of-spec =

@@ -7,9 +7,9 @@ use lib.ListN.{get_or}
 use Rattle.algebra.proofs.Filled.{Filled, filled_none}
 use Rattle.binary.specs.Xor.{◌⊕◌}
 use Rattle.binary.specs.Bit.{bit}
-use Rattle.binary.proofs.Bit.{bit-lt}
+use Rattle.binary.proofs.Bit.{bit_lt}
 use Rattle.linear.specs.Limits.{places}
-use Rattle.linear.proofs.Matrix.{withColumn-turn, withColumn-end}
+use Rattle.linear.proofs.Matrix.{with_column-turn, with_column_end}
 use Rattle.linear.proofs.inner.system.with_column.Statement.{statement}
 use Rattle.linear.proofs.inner.system.with_column.Tie as tie
 
@@ -38,7 +38,7 @@ bit-requires : tie.Need-bit-requires invariant-loop decreases-loop
 bit-requires c κs = search rules
 
 picked-requires : tie.Need-picked-requires invariant-loop decreases-loop
-picked-requires c κs = rw c.bit.ensures (bit-lt _ _)
+picked-requires c κs = rw c.bit.ensures (bit_lt _ _)
 
 mul-out : tie.Need-overflow-mul-out invariant-loop decreases-loop
 mul-out c = search rules
@@ -55,11 +55,11 @@ loop-less c = search rules
 loop-again : tie.Need-loop-preserved invariant-loop decreases-loop
 loop-again c =
     let l = c.before.before.before.loop in
-    withColumn-turn _ _ _ l.out l.i l.invariant c.picked.result (omega arith)
+    with_column-turn _ _ _ l.out l.i l.invariant c.picked.result (omega arith)
     (c.picked.ensures ∙ ap₂ ◌*◌ c.before.bit.ensures c.before.before.before.before.power-of-two.ensures)
 
 returns : tie.Need-returns invariant-loop decreases-loop
-returns c = withColumn-end _ _ _ _ c.before.loop.i c.before.loop.invariant (search rules) (omega arith)
+returns c = with_column_end _ _ _ _ c.before.loop.i c.before.loop.invariant (search rules) (omega arith)
 
 pub with-column-spec : {M : Type 1} → statement M
 with-column-spec =

@@ -1,8 +1,8 @@
 -- `built` meets its contract: the roots from place i on are in. Assumes nothing.
 use native.Mathlib.Omega.{arith}
 use borrow.Author.Rules.{rules}
-use Rattle.galois.proofs.Polynomial.{coeff-at}
-use Rattle.roots.proofs.FromRoots.{Built, building-start, building-small, building-next, building-end}
+use Rattle.galois.proofs.Polynomial.{coeff_at}
+use Rattle.roots.proofs.FromRoots.{Built, building_start, building_small, building_next, building_end}
 use Rattle.roots.proofs.inner.building.built.Statement.{statement}
 use Rattle.roots.proofs.inner.building.built.Tie as tie
 
@@ -13,7 +13,7 @@ abbrev decreases-loop : tie.decreases-loop
 decreases-loop p m roots f₀ i₀ f i = i
 
 loop-holds : tie.Need-loop-init invariant-loop decreases-loop
-loop-holds c = building-start _ _ c.before.requires.1
+loop-holds c = building_start _ _ c.before.requires.1
 
 sub-i : tie.Need-overflow-sub-i invariant-loop decreases-loop
 sub-i c = search rules
@@ -31,7 +31,7 @@ with-root-requires : tie.Need-with-root-requires invariant-loop decreases-loop
 with-root-requires c κs =
     let l = c.before.before.loop in
     let P = c.before.before.before.before.requires in
-    (P.0, building-small _ _ _ l.i l.invariant _ P.0.field, search rules, coeff-at _ c.before.before.before.before.args.roots.now _ P.2)
+    (P.0, building_small _ _ _ l.i l.invariant _ P.0.field, search rules, coeff_at _ c.before.before.before.before.args.roots.now _ P.2)
 
 loop-less : tie.Need-loop-smaller invariant-loop decreases-loop
 loop-less c = search rules
@@ -39,12 +39,12 @@ loop-less c = search rules
 loop-again : tie.Need-loop-preserved invariant-loop decreases-loop
 loop-again c =
     let l = c.before.before.before.loop in
-    building-next _ _ _ l.i l.invariant _ _ (omega arith) c.with_root.ensures
+    building_next _ _ _ l.i l.invariant _ _ (omega arith) c.with_root.ensures
 
 returns : tie.Need-returns invariant-loop decreases-loop
 returns c =
     let l = c.before.loop in
-    building-end _ _ _ l.i l.invariant (omega arith)
+    building_end _ _ _ l.i l.invariant (omega arith)
 
 pub built-spec : {M : Type 1} → statement M
 built-spec =

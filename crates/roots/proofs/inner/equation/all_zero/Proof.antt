@@ -8,8 +8,8 @@ use borrow.Author.Tests.{eq-eqb, ne_eqb}
 use borrow.Author.Rules.{rules}
 use lib.Dec.{eqb}
 use lib.ListN.{get_or}
-use Rattle.algebra.proofs.Search.{every-below, not-every-below}
-use Rattle.roots.specs.Calls.{allZero}
+use Rattle.algebra.proofs.Search.{every_below_lem, not_every_below}
+use Rattle.roots.specs.Calls.{all_zero}
 use Rattle.roots.proofs.inner.equation.all_zero.Statement.{statement}
 use Rattle.roots.proofs.inner.equation.all_zero.Tie as tie
 
@@ -29,10 +29,10 @@ shared-slice-read-if1 : tie.Need-shared-slice-read-if1 invariant-loop decreases-
 shared-slice-read-if1 c = search rules
 
 returns : tie.Need-returns invariant-loop decreases-loop
-unfolding allZero
+unfolding all_zero
 returns c =
     let l = c.before.before.before.loop in
-    sym (not-every-below _ _ l.i (omega arith) (ne_eqb _ _ c.if1.true))
+    sym (not_every_below _ _ l.i (omega arith) (ne_eqb _ _ c.if1.true))
 
 add-i : tie.Need-overflow-add-i invariant-loop decreases-loop
 add-i c = search rules
@@ -46,11 +46,11 @@ loop-again c =
     below_more _ l.i l.invariant (eq-eqb _ _ c.if1.false)
 
 returns-2 : tie.Need-returns-2 invariant-loop decreases-loop
-unfolding allZero
+unfolding all_zero
 returns-2 c =
     let l = c.before.loop in
     let w = l.invariant in
-    sym (every-below _ _ (λ j h. w j (omega arith)))
+    sym (every_below_lem _ _ (λ j h. w j (omega arith)))
 
 pub all-zero-spec : {M : Type 1} → statement M
 all-zero-spec =

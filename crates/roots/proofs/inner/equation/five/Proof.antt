@@ -5,13 +5,13 @@ use native.Mathlib.Omega.{arith}
 use borrow.Author.Rules.{rules}
 use lib.ListN.{length, get_or, replicate}
 use Rattle.algebra.proofs.Filled.{Filled, filled_none, filled_put}
-use Rattle.algebra.proofs.Places.{filled-padded}
-use Rattle.roots.specs.Limits.{mostCoefficients}
+use Rattle.algebra.proofs.Places.{filled_padded}
+use Rattle.roots.specs.Limits.{most_coefficients}
 use Rattle.roots.proofs.inner.equation.five.Statement.{statement}
 use Rattle.roots.proofs.inner.equation.five.Tie as tie
 
 abbrev invariant-loop : tie.invariant-loop
-invariant-loop coefficients out₀ i₀ i-end out i = (i ≤ length coefficients) × Filled (λ j. get_or coefficients j 0) (replicate mostCoefficients 0) out i
+invariant-loop coefficients out₀ i₀ i-end out i = (i ≤ length coefficients) × Filled (λ j. get_or coefficients j 0) (replicate most_coefficients 0) out i
 
 abbrev decreases-loop : tie.decreases-loop
 decreases-loop coefficients out₀ i₀ i-end out i = i-end - i
@@ -45,7 +45,7 @@ loop-again c =
 returns : tie.Need-returns invariant-loop decreases-loop
 returns c =
     let l = c.before.loop in
-    filled-padded mostCoefficients c.before.before.args.coefficients.now _ l.i c.before.before.requires (omega arith) l.invariant.1
+    filled_padded most_coefficients c.before.before.args.coefficients.now _ l.i c.before.before.requires (omega arith) l.invariant.1
 
 pub five-spec : {M : Type 1} → statement M
 five-spec =

@@ -1,7 +1,7 @@
 -- `degree` meets its contract: above place i every coefficient is 0. Assumes nothing.
 use native.Mathlib.Omega.{arith}
 use borrow.Author.Rules.{rules}
-use Rattle.roots.proofs.Highest.{Above, above-start, above-here, above-next, above-end}
+use Rattle.roots.proofs.Highest.{Above, above_start, above_here, above_next, above_end}
 use Rattle.roots.proofs.inner.multiplicity.degree.Statement.{statement}
 use Rattle.roots.proofs.inner.multiplicity.degree.Tie as tie
 
@@ -15,7 +15,7 @@ sub-i : tie.Need-overflow-sub-i invariant-loop decreases-loop
 sub-i c = search rules
 
 loop-holds : tie.Need-loop-init invariant-loop decreases-loop
-loop-holds c = above-start _ _ (search rules)
+loop-holds c = above_start _ _ (search rules)
 
 mul-if1 : tie.Need-overflow-mul-if1 invariant-loop decreases-loop
 mul-if1 c = search rules
@@ -24,7 +24,7 @@ array-read-if1 : tie.Need-array-read-if1 invariant-loop decreases-loop
 array-read-if1 c = search rules
 
 returns : tie.Need-returns invariant-loop decreases-loop
-returns c = above-here _ _ c.if1.true c.before.before.loop.invariant
+returns c = above_here _ _ c.if1.true c.before.before.loop.invariant
 
 sub-i-2 : tie.Need-overflow-sub-i-2 invariant-loop decreases-loop
 sub-i-2 c = search rules
@@ -33,10 +33,10 @@ loop-less : tie.Need-loop-smaller invariant-loop decreases-loop
 loop-less c = search rules
 
 loop-again : tie.Need-loop-preserved invariant-loop decreases-loop
-loop-again c = above-next _ _ _ (omega arith) c.if1.false c.before.before.loop.invariant
+loop-again c = above_next _ _ _ (omega arith) c.if1.false c.before.before.loop.invariant
 
 returns-2 : tie.Need-returns-2 invariant-loop decreases-loop
-returns-2 c = above-end _ _ (omega arith) c.before.before.requires c.before.loop.invariant
+returns-2 c = above_end _ _ (omega arith) c.before.before.requires c.before.loop.invariant
 
 pub degree-spec : {M : Type 1} → statement M
 degree-spec =

@@ -1,6 +1,6 @@
 -- `multiplicities` meets its contract. Assumes nothing.
 use borrow.Author.Rules.{rules}
-use Rattle.roots.proofs.Multiples.{ones-are}
+use Rattle.roots.proofs.Multiples.{ones_are}
 use Rattle.roots.proofs.inner.multiplicity.multiplicities.Statement.{statement}
 use Rattle.roots.proofs.inner.multiplicity.multiplicities.Tie as tie
 
@@ -13,7 +13,7 @@ ones-requires c κs = search rules
 returns : tie.Need-returns
 returns c =
     let P = c.before.before.before.before.requires in
-    ones-are _ _ _ P.0 (search rules) _ P.1 _ c.before.before.before.degree.ensures c.before.if1.true _ c.ones.ensures
+    ones_are _ _ _ P.0 (search rules) _ P.1 _ c.before.before.before.degree.ensures c.before.if1.true _ c.ones.ensures
 
 counted-requires : tie.Need-counted-requires
 counted-requires c κs = search rules

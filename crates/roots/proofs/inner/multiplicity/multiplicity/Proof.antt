@@ -1,8 +1,8 @@
 -- `multiplicity` meets its contract. Assumes nothing.
 use borrow.Author.Rules.{rules}
-use Rattle.galois.proofs.Power.{mul-lt}
-use Rattle.galois.proofs.Polynomial.{coeff-at}
-use Rattle.roots.proofs.Derivative.{simple-root}
+use Rattle.galois.proofs.Power.{mul_lt}
+use Rattle.galois.proofs.Polynomial.{coeff_at}
+use Rattle.roots.proofs.Derivative.{simple_root}
 use Rattle.roots.proofs.inner.multiplicity.multiplicity.Statement.{statement}
 use Rattle.roots.proofs.inner.multiplicity.multiplicity.Tie as tie
 
@@ -19,12 +19,12 @@ product-requires-2 : tie.Need-product-requires-2
 product-requires-2 c κs =
     let P = c.before.requires in
     let a = c.before.args in
-    (P.0.modulus, coeff-at _ a.t3 3 P.1, rw c.product.ensures (mul-lt _ _ P.0.field a.r a.r))
+    (P.0.modulus, coeff_at _ a.t3 3 P.1, rw c.product.ensures (mul_lt _ _ P.0.field a.r a.r))
 
 returns : tie.Need-returns
 returns c =
     let P = c.before.before.before.requires in
-    simple-root _ _ P.0.field _ P.2.0 c.before.before.before.args.t3 (search rules) P.1 P.2.1 _ _
+    simple_root _ _ P.0.field _ P.2.0 c.before.before.before.args.t3 (search rules) P.1 P.2.1 _ _
     c.before.before.product.ensures c.before.product2.ensures c.if1.true
 
 divisions-requires : tie.Need-divisions-requires

@@ -5,13 +5,13 @@ use native.Mathlib.Omega.{arith}
 use borrow.Author.Rules.{rules}
 use lib.ListN.{get_or, replicate, get_or-replicate, length-replicate}
 use Rattle.algebra.proofs.Filled.{Filled, filled_none, filled_put}
-use Rattle.algebra.proofs.Places.{filled-padded}
-use Rattle.roots.specs.Limits.{mostRoots}
+use Rattle.algebra.proofs.Places.{filled_padded}
+use Rattle.roots.specs.Limits.{most_roots}
 use Rattle.roots.proofs.inner.multiplicity.ones.Statement.{statement}
 use Rattle.roots.proofs.inner.multiplicity.ones.Tie as tie
 
 abbrev invariant-loop : tie.invariant-loop
-invariant-loop count out₀ i₀ out i = (i ≤ count) × Filled (λ j. get_or (replicate count 1) j 0) (replicate mostRoots 0) out i
+invariant-loop count out₀ i₀ out i = (i ≤ count) × Filled (λ j. get_or (replicate count 1) j 0) (replicate most_roots 0) out i
 
 abbrev decreases-loop : tie.decreases-loop
 decreases-loop count out₀ i₀ out i = count - i
@@ -41,7 +41,7 @@ returns c =
     let l = c.before.loop in
     let k = c.before.before.args.count in
     let e = length-replicate {A = ℕ} k 1 in
-    filled-padded mostRoots (replicate k 1) _ l.i (omega (arith, c.before.before.requires)) (omega arith) l.invariant.1
+    filled_padded most_roots (replicate k 1) _ l.i (omega (arith, c.before.before.requires)) (omega arith) l.invariant.1
 
 pub ones-spec : {M : Type 1} → statement M
 ones-spec =

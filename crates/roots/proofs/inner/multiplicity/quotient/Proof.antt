@@ -4,7 +4,7 @@ use mathlib.Core.List.{List, [], ◌∷◌, ◌++◌}
 use Prim.Native.Nat.{ℕ}
 use borrow.Author.Rules.{rules}
 use lib.ListN.{drop}
-use Rattle.roots.proofs.Entries.{five-entries}
+use Rattle.roots.proofs.Entries.{five_entries}
 use Rattle.roots.proofs.inner.multiplicity.quotient.Statement.{statement}
 use Rattle.roots.proofs.inner.multiplicity.quotient.Tie as tie
 
@@ -21,7 +21,7 @@ array-read-t14 : tie.Need-array-read-t14
 array-read-t14 c = search rules
 
 returns : tie.Need-returns
-returns c = sym (ap (λ (l : List ℕ). drop 1 l ++ 0 ∷ []) (five-entries c.args.t1 (search rules)))
+returns c = sym (ap (λ (l : List ℕ). drop 1 l ++ 0 ∷ []) (five_entries c.args.t1 (search rules)))
 
 pub quotient-spec : {M : Type 1} → statement M
 quotient-spec =

@@ -1,7 +1,7 @@
 -- `divided` meets its contract: from place i on the values are those of the polynomial's tails. Assumes nothing.
 use native.Mathlib.Omega.{arith}
 use borrow.Author.Rules.{rules}
-use Rattle.roots.proofs.Division.{Dividing, dividing-start, dividing-next, dividing-end, dividing-lt}
+use Rattle.roots.proofs.Division.{Dividing, dividing_start, dividing_next, dividing_end, dividing_lt}
 use Rattle.roots.proofs.inner.polynomial.divided.Statement.{statement}
 use Rattle.roots.proofs.inner.polynomial.divided.Tie as tie
 
@@ -15,7 +15,7 @@ sub-i : tie.Need-overflow-sub-i invariant-loop decreases-loop
 sub-i c = search rules
 
 loop-holds : tie.Need-loop-init invariant-loop decreases-loop
-loop-holds c = dividing-start _ _ _ _ (search rules)
+loop-holds c = dividing_start _ _ _ _ (search rules)
 
 mul-above : tie.Need-overflow-mul-above invariant-loop decreases-loop
 mul-above c = search rules
@@ -36,7 +36,7 @@ product-requires : tie.Need-product-requires invariant-loop decreases-loop
 product-requires c κs =
     let l = c.before.loop in
     let P = c.before.before.requires in
-    (P.0.modulus, P.2, dividing-lt _ _ P.0.field _ _ _ l.i P.1 l.invariant)
+    (P.0.modulus, P.2, dividing_lt _ _ P.0.field _ _ _ l.i P.1 l.invariant)
 
 mul-out-2 : tie.Need-overflow-mul-out-2 invariant-loop decreases-loop
 mul-out-2 c = search rules
@@ -50,12 +50,12 @@ loop-less c = search rules
 loop-again : tie.Need-loop-preserved invariant-loop decreases-loop
 loop-again c =
     let l = c.before.before.loop in
-    dividing-next _ _ _ _ l.i _ _ (omega arith) c.product.ensures l.invariant
+    dividing_next _ _ _ _ l.i _ _ (omega arith) c.product.ensures l.invariant
 
 returns : tie.Need-returns invariant-loop decreases-loop
 returns c =
     let l = c.before.loop in
-    dividing-end _ _ _ _ l.i (omega arith) l.invariant
+    dividing_end _ _ _ _ l.i (omega arith) l.invariant
 
 pub divided-spec : {M : Type 1} → statement M
 divided-spec =

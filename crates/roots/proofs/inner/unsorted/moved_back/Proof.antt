@@ -3,7 +3,7 @@ use Prim.Native.Nat.{◌-◌, ◌≤◌}
 use native.Mathlib.Omega.{arith}
 use borrow.Author.Rules.{rules}
 use Rattle.algebra.proofs.Filled.{filled_none}
-use Rattle.roots.proofs.Moving.{Moved, inverse-ready, moved-next, moved_all}
+use Rattle.roots.proofs.Moving.{Moved, inverse_ready, moved_next, moved_all}
 use Rattle.roots.proofs.inner.unsorted.moved_back.Statement.{statement}
 use Rattle.roots.proofs.inner.unsorted.moved_back.Tie as tie
 
@@ -26,7 +26,7 @@ inverse-requires : tie.Need-inverse-requires invariant-loop decreases-loop
 inverse-requires c κs =
     let P = c.before.before.before.requires in
     let l = c.before.loop in
-    inverse-ready _ _ _ P.0 c.before.before.before.args.ys P.1 P.2 _ l.i l.invariant.1 (search rules)
+    inverse_ready _ _ _ P.0 c.before.before.before.args.ys P.1 P.2 _ l.i l.invariant.1 (search rules)
 
 mul-list : tie.Need-overflow-mul-list invariant-loop decreases-loop
 mul-list c = search rules
@@ -45,7 +45,7 @@ loop-again c =
     let P = c.before.before.before.before.requires in
     let l = c.before.before.loop in
     let v = c.inverse.ensures in
-    (search rules, moved-next _ _ _ P.0 c.before.before.before.before.args.ys P.1 P.2 _ l.i l.invariant.1 _ (search rules) v.0 v.1)
+    (search rules, moved_next _ _ _ P.0 c.before.before.before.before.args.ys P.1 P.2 _ l.i l.invariant.1 _ (search rules) v.0 v.1)
 
 returns : tie.Need-returns invariant-loop decreases-loop
 returns c =

@@ -1,6 +1,6 @@
 -- `with_last` meets its contract. Assumes nothing.
 use borrow.Author.Rules.{rules}
-use Rattle.roots.proofs.Moving.{last-put}
+use Rattle.roots.proofs.Moving.{last_put}
 use Rattle.roots.proofs.inner.unsorted.with_last.Statement.{statement}
 use Rattle.roots.proofs.inner.unsorted.with_last.Tie as tie
 
@@ -16,7 +16,7 @@ add-t5 c = search rules
 returns : tie.Need-returns
 returns c =
     let P = c.before.requires in
-    last-put c.before.args.xs _ P.0 P.1
+    last_put c.before.args.xs _ P.0 P.1
 
 pub with-last-spec : {M : Type 1} → statement M
 with-last-spec = tie.close (tie.spec mul-list array-write-list add-t5 returns)
