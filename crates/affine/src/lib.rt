@@ -1,5 +1,7 @@
 // Affine equations c + l0·x + l1·x^2 + l2·x^4 + .. over GF(2^m): the public calls. Each takes the field polynomial and the coefficients, c
 // first, and tests them; none asks anything of its caller, and each answers by its definition in specs/Calls, for every input.
+#![tactic(auto)]
+
 ghost use Rattle.std.specs.Prelude.{◌≡◌, length};
 ghost use Rattle.field.specs.Answers.{of_element};
 ghost use Rattle.affine.specs.Answers.{of_affine, of_count};
@@ -14,7 +16,7 @@ use linear::inner::listing::{Entry, list_all};
 use linear::inner::place::place;
 
 // Turned down by its number, or without a root, or with the number k of directions.
-#[derive(Drop)]
+#[derive(Clone, Copy)]
 pub enum RootSpace {
     TurnedDown(u32),
     NoRoot,
@@ -22,7 +24,7 @@ pub enum RootSpace {
 }
 
 // The roots are the base combined by exclusive or with each choice of the k directions, which stand first in their places.
-#[derive(Drop)]
+#[derive(Clone, Copy)]
 pub struct AffineAnswer {
     pub space: RootSpace,
     pub base: Element,
@@ -30,7 +32,7 @@ pub struct AffineAnswer {
 }
 
 // Turned down by its number, or how many roots were listed.
-#[derive(Drop)]
+#[derive(Clone, Copy)]
 pub enum CountAnswer {
     TurnedDown(u32),
     Count(u32),

@@ -1,4 +1,6 @@
 // Compares the three calls of `affine` with a search over all elements, and prints what was compared.
+#![tactic(auto)]
+
 mod calls;
 mod chosen;
 mod compare;

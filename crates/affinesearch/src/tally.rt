@@ -9,7 +9,7 @@ const NUMBERS: usize = 5;
 
 // The generator's number, and what has been counted so far: the calls by the number that they are turned down by; the elements tried for
 // the faultless ones, and their roots; the places compared; and the calls with a difference.
-#[derive(Drop)]
+#[derive(Clone, Copy)]
 pub struct Tally {
     pub seed: u64,
     pub by: [u32; NUMBERS],

@@ -9,7 +9,7 @@ pub const TERMS: usize = 5;
 const LARGEST_DEGREE: u32 = 4;
 
 // A polynomial divided by another of degree 1.
-#[derive(Drop)]
+#[derive(Clone, Copy)]
 struct Division {
     quotient: [u32; TERMS],
     remainder: u32,

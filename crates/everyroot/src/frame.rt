@@ -20,7 +20,7 @@ pub const AFFINE: u32 = 2;
 const NO_DIGIT: u32 = 16;
 
 // A frame. Places for coefficients that are not given hold 0.
-#[derive(Drop)]
+#[derive(Clone, Copy)]
 pub struct Frame {
     pub kind: u32,
     pub polynomial: u32,

@@ -3,6 +3,8 @@
 //
 // To read in this order: `field` (product, factor test), `equation` and `affine` (the two searches), `refusal` (the numbers a frame is
 // turned down by), `frame` (the digits of a line), `answer`, `stream` (bytes to lines), `output`.
+#![tactic(auto)]
+
 mod affine;
 mod answer;
 mod equation;
@@ -18,7 +20,7 @@ use crate::stream::State;
 use libc::{STDERR_FILENO, STDIN_FILENO};
 
 // What a read left, and whether there is another.
-#[derive(Drop)]
+#[derive(Clone, Copy)]
 struct After {
     more: bool,
     state: State,

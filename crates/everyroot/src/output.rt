@@ -9,7 +9,7 @@ pub const ROOM: usize = 65536;
 const LAST: u16 = 65535;
 
 // How many bytes wait in the buffer, and whether every write so far went well.
-#[derive(Drop)]
+#[derive(Clone, Copy)]
 pub struct Output {
     pub waiting: u16,
     pub open: bool,

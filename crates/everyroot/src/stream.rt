@@ -4,7 +4,7 @@ use crate::frame::LONGEST;
 use crate::output::{Output, ROOM};
 
 // How long the line is so far, and where the output stands.
-#[derive(Drop)]
+#[derive(Clone, Copy)]
 pub struct State {
     pub length: usize,
     pub output: Output,

@@ -1,5 +1,7 @@
 // GF(2^m), m from 2 to 16: the public calls of the arithmetic. Each takes the field polynomial and tests it; none asks anything of its
 // caller, and each answers by its definition in specs/Calls, for every input.
+#![tactic(auto)]
+
 ghost use Rattle.std.specs.Prelude.{◌≡◌};
 ghost use Rattle.field.specs.Answers.{of_degree, of_element, of_trace, of_number, of_polynomial};
 ghost use Rattle.field.specs.Calls.{accept_outcome, sum_outcome, product_outcome, quotient_outcome, power_outcome, square_root_outcome, trace_outcome, number_outcome, element_outcome, power_of_xOutcome, house_outcome};
@@ -14,41 +16,41 @@ use arithmetic::inner::{inverse, logarithm, power, root};
 use binary::inner::modulo;
 
 // Three readings of "14", each its own kind of value: going between them is a named call.
-#[derive(Drop)]
+#[derive(Clone, Copy)]
 pub struct Element(pub u32);
 
-#[derive(Drop)]
+#[derive(Clone, Copy)]
 pub struct Exponent(pub i32);
 
-#[derive(Drop)]
+#[derive(Clone, Copy)]
 pub struct LogNumber(pub u32);
 
 // What a call answers: turned down by its number, or a value.
-#[derive(Drop)]
+#[derive(Clone, Copy)]
 pub enum DegreeAnswer {
     TurnedDown(u32),
     Degree(u32),
 }
 
-#[derive(Drop)]
+#[derive(Clone, Copy)]
 pub enum ElementAnswer {
     TurnedDown(u32),
     Found(Element),
 }
 
-#[derive(Drop)]
+#[derive(Clone, Copy)]
 pub enum TraceAnswer {
     TurnedDown(u32),
     Trace(u32),
 }
 
-#[derive(Drop)]
+#[derive(Clone, Copy)]
 pub enum NumberAnswer {
     TurnedDown(u32),
     Found(LogNumber),
 }
 
-#[derive(Drop)]
+#[derive(Clone, Copy)]
 pub enum PolynomialAnswer {
     TurnedDown(u32),
     Polynomial(u32),

@@ -1,6 +1,8 @@
 // Frame lines: one line to its answer, and a stream of chunks to the answers of its lines. No call asks anything of its caller, and each
 // does what its definitions in specs/ say, for every input. The last two lines of each promise follow from the others; they are there so
 // that a caller who goes on in a chunk, or lends `&out[..n]`, has nothing to prove.
+#![tactic(auto)]
+
 ghost use Rattle.std.specs.Prelude.{◌≡◌, ◌≤◌, length};
 ghost use Rattle.std.proofs.lemmas.List.Edits.{sets};
 ghost use Rattle.frames.specs.Limits.{answer_room};
@@ -19,13 +21,13 @@ use crate::limits::{ANSWER_ROOM, MOST_DIGITS};
 
 // A line that has begun: how many bytes it has so far. Its first 1,030 bytes stand in the list that the caller lends to each call; of a
 // longer line, which is malformed whatever it holds, no more is kept, and the length stays at 1,031. A new stream begins with length 0.
-#[derive(Drop)]
+#[derive(Clone, Copy)]
 pub struct OpenLine {
     pub length: usize,
 }
 
 // What a call has done: the line as it stands now, how many bytes of the chunk it has taken, and how many characters it has written.
-#[derive(Drop)]
+#[derive(Clone, Copy)]
 pub struct Progress {
     pub line: OpenLine,
     pub taken: usize,

@@ -1,5 +1,7 @@
 // Reads frame lines from standard input and writes their answers to standard output. What a line's answer is, and what the lines are
 // however the input is cut into reads, is proved of `frames`; here is only the reading and the writing.
+#![tactic(auto)]
+
 ghost use Rattle.std.specs.Prelude.{◌≡◌, ◌≤◌};
 ghost use Rattle.frames.specs.Stream.{taken_of};
 ghost use Rattle.gfroots.specs.Output.{output_room};
@@ -12,21 +14,21 @@ use frames::limits::{ANSWER_ROOM, MOST_DIGITS};
 use libc::{STDERR_FILENO, STDIN_FILENO};
 
 // The line that has begun, and where the output stands.
-#[derive(Drop)]
+#[derive(Clone, Copy)]
 struct State {
     begun: OpenLine,
     output: Output,
 }
 
 // What a call left, and how many bytes it took.
-#[derive(Drop)]
+#[derive(Clone, Copy)]
 struct Called {
     state: State,
     taken: usize,
 }
 
 // What a read left, and whether there is another.
-#[derive(Drop)]
+#[derive(Clone, Copy)]
 struct After {
     state: State,
     more: bool,

@@ -10,7 +10,7 @@ use libc::{STDERR_FILENO, STDOUT_FILENO};
 pub const OUTPUT_ROOM: usize = 65536;
 
 // How many characters wait in the buffer, and whether every write so far went well.
-#[derive(Drop)]
+#[derive(Clone, Copy)]
 pub struct Output {
     pub waiting: usize,
     pub goes_on: bool,

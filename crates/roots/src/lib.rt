@@ -1,5 +1,7 @@
 // Equations of degree up to 4 over GF(2^m): the public calls. Each takes the field polynomial and tests its input; none asks anything of its
 // caller, and each answers by its definition in specs/Calls, for every input.
+#![tactic(auto)]
+
 ghost use Rattle.std.specs.Prelude.{◌≡◌};
 ghost use Rattle.roots.specs.Answers.{of_roots, of_built};
 ghost use Rattle.roots.specs.Calls.{solve_answer, build_answer};
@@ -13,14 +15,14 @@ use crate::limits::{MOST_COEFFICIENTS, MOST_ROOTS};
 use field::inner::refusal::degree_of;
 
 // Turned down by its number, or solved with the number of different roots.
-#[derive(Drop)]
+#[derive(Clone, Copy)]
 pub enum RootCount {
     TurnedDown(u32),
     Solved(u32),
 }
 
 // The roots, ascending, stand first in their places, each with its multiplicity in the same place; unused places are 0.
-#[derive(Drop)]
+#[derive(Clone, Copy)]
 pub struct RootsAnswer {
     pub count: RootCount,
     pub roots: [u32; MOST_ROOTS],
@@ -28,14 +30,14 @@ pub struct RootsAnswer {
 }
 
 // Turned down by its number, or built.
-#[derive(Drop)]
+#[derive(Clone, Copy)]
 pub enum Building {
     TurnedDown(u32),
     Built,
 }
 
 // The coefficients, constant first, 0 above the degree.
-#[derive(Drop)]
+#[derive(Clone, Copy)]
 pub struct BuiltAnswer {
     pub building: Building,
     pub coefficients: [u32; MOST_COEFFICIENTS],

@@ -1,4 +1,6 @@
 // Compares the two calls of `roots` with a search over all elements, and prints what was compared.
+#![tactic(auto)]
+
 ghost use Rattle.std.specs.Prelude.{◌≤◌};
 
 mod calls;

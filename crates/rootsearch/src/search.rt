@@ -10,7 +10,7 @@ use trial::inner::plain;
 pub const ROOTS: usize = 4;
 
 // The roots, ascending, and their multiplicities, unused places 0; how many roots there are, and how many of them are multiple.
-#[derive(Drop)]
+#[derive(Clone, Copy)]
 pub struct Found {
     pub count: u32,
     pub multiple: u32,

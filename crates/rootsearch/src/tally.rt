@@ -21,7 +21,7 @@ pub const MULTIPLE: usize = 14;
 // The calls with a difference.
 pub const DIFFERENCES: usize = 15;
 
-#[derive(Drop)]
+#[derive(Clone, Copy)]
 pub struct Tally {
     pub seed: u64,
     pub counts: [u64; 16],

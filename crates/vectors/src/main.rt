@@ -2,6 +2,8 @@
 // `power 19 2 -1`. Each row is written back with what the call answered; a row that is no call's is turned down by 8, the number of a
 // malformed line. A last row without a line end counts. At most 65,536 bytes are read. The gate compares the output with the stored one,
 // which tests/vectors.py made.
+#![tactic(auto)]
+
 mod affine_calls;
 mod calls;
 mod numbers;

@@ -10,7 +10,7 @@ const EIGHT_LETTERS: u64 = 0x0100_0000_0000_0000;
 const NO_NAME: u64 = 0xffff_ffff_ffff_ffff;
 
 // A row as far as it has been read. `count` numbers have begun; a sign is the last one's.
-#[derive(Drop)]
+#[derive(Clone, Copy)]
 pub struct Row {
     pub name: u64,
     pub count: usize,

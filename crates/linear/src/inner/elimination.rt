@@ -12,7 +12,7 @@ use binary::inner::digit::{bit, picked};
 pub const PLACES: usize = 16;
 
 // The rows after the elimination, and the mark of each: the column that it is the pivot of, m while it is unused.
-#[derive(Drop)]
+#[derive(Clone, Copy)]
 pub struct Reduced {
     pub rows: [u32; PLACES],
     pub marks: [u32; PLACES],

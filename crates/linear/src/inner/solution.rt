@@ -8,7 +8,7 @@ use crate::inner::elimination::{PLACES, Reduced, eliminated, may_pivot};
 use binary::inner::digit::{bit, picked, power_of_two};
 
 // The solutions are the base combined by exclusive or with each choice of the count directions, which stand first in their places.
-#[derive(Drop)]
+#[derive(Clone, Copy)]
 pub struct Solution {
     pub found: bool,
     pub count: usize,

@@ -20,7 +20,7 @@ use binary::inner::modulo::product;
 use linear::inner::solution::Solution;
 
 // The first `count` numbers of the list.
-#[derive(Drop)]
+#[derive(Clone, Copy)]
 pub struct Unsorted {
     pub count: usize,
     pub list: [u32; MOST_ROOTS],

@@ -1,0 +1,32 @@
+-- `shifted` meets its contract. Assumes nothing.
+use mathlib.Core.Path.{◌≡◌, sym, ◌∙◌}
+use Prim.Native.Nat.{◌-◌, ◌^◌, ◌≤◌, ◌<◌}
+use native.Mathlib.Omega.{arith}
+use borrow.Author.Rules.{rules}
+use Rattle.binary.specs.Product.{product}
+use Rattle.binary.proofs.Product.{product_one}
+use Rattle.binary.proofs.Modulus.{times_x_lt}
+use Rattle.galois.specs.Power.{power}
+use Rattle.affine.proofs.Terms.{shift_more}
+use Rattle.affine.proofs.inner.columns.shifted.Goals as goal
+
+pub loop-k-init : goal.loop-k-init
+unfolding power
+loop-k-init c =
+    let a = c.args in
+    let q = c.requires in
+    (omega arith, q.1, sym (product_one a.m a.p q.0.field.irr.degree a.t q.1))
+
+pub loop-k-preserved : goal.loop-k-preserved
+loop-k-preserved c =
+    let a = c.args in
+    let q = c.requires in
+    let l = c.loop-k in
+    let e = c.doubled-moved.ensures in
+    (omega arith, rw e (times_x_lt a.m a.p q.0.field.irr.degree _), e ∙ shift_more a.m a.p q.0.field a.t l.k l.moved l.invariant.2)
+
+pub returns : goal.returns
+returns c =
+    let l = c.loop-k in
+    let e : l.k ≡ c.args.n = omega arith in
+    rw e at l.invariant.2

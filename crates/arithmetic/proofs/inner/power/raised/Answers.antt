@@ -1,0 +1,57 @@
+-- `raised` meets its contract. Assumes nothing.
+use mathlib.Core.Path.{◌≡◌, sym, ap, ap₂, ◌∙◌}
+use Prim.Native.Nat.{ℕ, ◌/◌, ◌%◌, ◌<◌, ◌^◌}
+use native.Mathlib.Omega.{arith}
+use borrow.Author.Rules.{rules}
+use Rattle.binary.specs.Product.{product}
+use Rattle.binary.proofs.Product.{product_lt, product_one, one_product, product_assoc}
+use Rattle.galois.specs.Field.{Field}
+use Rattle.galois.proofs.Field.{one_lt}
+use Rattle.galois.specs.Power.{power}
+use Rattle.galois.proofs.Power.{power_lt}
+use Rattle.arithmetic.proofs.Power.{power-digit}
+use Rattle.arithmetic.proofs.inner.power.raised.Invariants.{Raised}
+use Rattle.arithmetic.proofs.inner.power.raised.Goals as goal
+
+module _ (m p : ℕ) (F : Field m p) where
+  start : (a n : ℕ) → a < 2 ^ m → Raised m p (power p a n) 1 a n
+  start a n h = record { done = one_lt m p F; small = h; whole = one_product m p F.irr.degree (power p a n) (power_lt m p F a n) }
+
+  turn : (w result base left r b : ℕ) → Raised m p w result base left → r ≡ product p result (power p base (left % 2)) → b ≡ product p base base
+      → Raised m p w r b (left / 2)
+  turn w result base left r b S er eb =
+      let d = F.irr.degree in
+      record {
+        done = rw er (product_lt m p d result (power p base (left % 2)));
+        small = rw eb (product_lt m p d base base);
+        whole = ap₂ (λ (x y : ℕ). product p x (power p y (left / 2))) er eb
+            ∙ product_assoc m p d result (power p base (left % 2)) (power p (product p base base) (left / 2))
+            ∙ ap (product p result) (sym (power-digit m p F base left S.small)) ∙ S.whole;
+      }
+
+  end : (w result base left : ℕ) → left ≡ 0 → Raised m p w result base left → result ≡ w
+  unfolding power
+  end w result base left e S =
+      sym (ap (λ (k : ℕ). product p result (power p base k)) e ∙ product_one m p F.irr.degree result S.done) ∙ S.whole
+
+pub loop-left-init : goal.loop-left-init
+loop-left-init c = start c.args.m c.args.p c.requires.0.field c.args.a c.args.n c.requires.1
+
+pub times_digit-result-requires : goal.times_digit-result-requires
+times_digit-result-requires c = (c.requires.0, omega arith, c.loop-left.invariant.done, c.loop-left.invariant.small)
+
+pub loop-left-smaller : goal.loop-left-smaller
+loop-left-smaller c = omega arith
+
+pub loop-left-preserved : goal.loop-left-preserved
+loop-left-preserved c =
+    let a = c.args in
+    let l = c.loop-left in
+    turn a.m a.p c.requires.0.field (power a.p a.a a.n) l.result l.base l.left _ _ l.invariant
+    c.times_digit-result.ensures c.product-base.ensures
+
+pub returns : goal.returns
+returns c =
+    let a = c.args in
+    let l = c.loop-left in
+    end a.m a.p c.requires.0.field (power a.p a.a a.n) l.result l.base l.left c.loop-left-test.false l.invariant

@@ -1,0 +1,25 @@
+-- `raised` meets its contract. Assumes nothing.
+use mathlib.Core.Path.{◌≡◌, sym, ap, ap₂, ◌∙◌}
+use Prim.Native.Nat.{ℕ, ◌/◌, ◌%◌, ◌<◌, ◌^◌}
+use native.Mathlib.Omega.{arith}
+use borrow.Author.Rules.{rules}
+use Rattle.binary.specs.Product.{product}
+use Rattle.binary.proofs.Product.{product_lt, product_one, one_product, product_assoc}
+use Rattle.galois.specs.Field.{Field}
+use Rattle.galois.proofs.Field.{one_lt}
+use Rattle.galois.specs.Power.{power}
+use Rattle.galois.proofs.Power.{power_lt}
+use Rattle.arithmetic.proofs.Power.{power-digit}
+use Rattle.arithmetic.proofs.inner.power.raised.Given as goal
+
+-- the result so far, times what is left of the power, is the whole
+pub record Raised (m p w result base left : ℕ) : Type 0 where
+  pub done : result < 2 ^ m
+  pub small : base < 2 ^ m
+  pub whole : product p result (power p base left) ≡ w
+
+abbrev pub invariant-loop-left : goal.invariant-loop-left
+invariant-loop-left l = Raised l.m l.p (power l.p l.a l.n) l.result l.base l.left
+
+abbrev pub decreases-loop-left : goal.decreases-loop-left
+decreases-loop-left l = l.left

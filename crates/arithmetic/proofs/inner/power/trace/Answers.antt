@@ -1,0 +1,52 @@
+-- `trace` meets its contract. Assumes nothing.
+use mathlib.Core.Path.{◌≡◌, refl, sym, ap, ap₂, ◌∙◌}
+use Prim.Native.Nat.{ℕ, ◌+◌, ◌-◌, ◌≤◌, ◌<◌, ◌^◌}
+use native.Mathlib.Numerals.{add-one}
+use native.Mathlib.Omega.{arith}
+use lib.Bits.{bit_xor}
+use borrow.Author.Rules.{rules}
+use Rattle.binary.specs.Xor.{◌⊕◌}
+use Rattle.binary.proofs.Xor.{is_xor}
+use Rattle.binary.specs.Product.{product}
+use Rattle.galois.specs.Field.{Field}
+use Rattle.galois.specs.Power.{squares}
+use Rattle.galois.proofs.Power.{squares_lt}
+use Rattle.galois.specs.Trace.{part_trace, trace}
+use Rattle.arithmetic.proofs.inner.power.trace.Invariants.{Traced}
+use Rattle.arithmetic.proofs.inner.power.trace.Goals as goal
+
+start : (m p c : ℕ) → c < 2 ^ m → Traced m p c 0 c 0
+unfolding squares part_trace
+start m p c h = record { turns = omega arith; small = h; now = refl; so_far = refl }
+
+turn : (m p c sum x k r : ℕ) → Field m p → c < 2 ^ m → k < m → Traced m p c sum x k → r ≡ product p x x → Traced m p c (bit_xor sum x) r (k + 1)
+unfolding squares part_trace
+turn m p c sum x k r F h l S e =
+    let n : r ≡ squares p (k + 1) c = e ∙ ap (λ (v : ℕ). product p v v) S.now ∙ ap (λ (j : ℕ). squares p j c) (sym (add-one k)) in
+    record {
+      turns = omega arith;
+      small = rw n (squares_lt m p F (k + 1) c h);
+      now = n;
+      so_far = sym (is_xor sum x) ∙ ap₂ ◌⊕◌ S.so_far S.now ∙ ap (λ (j : ℕ). part_trace p j c) (sym (add-one k));
+    }
+
+end : (m p c sum x k : ℕ) → m ≤ k → Traced m p c sum x k → sum ≡ trace m p c
+end m p c sum x k l S =
+    let q : k ≡ m = omega (arith, S.turns) in
+    S.so_far ∙ ap (λ (j : ℕ). part_trace p j c) q
+
+pub loop-k-init : goal.loop-k-init
+loop-k-init c = start c.args.m c.args.p c.args.c c.requires.1
+
+pub loop-k-preserved : goal.loop-k-preserved
+loop-k-preserved c =
+    let a = c.args in
+    let q = c.requires in
+    let l = c.loop-k in
+    turn a.m a.p a.c l.sum l.x l.k _ q.0.field q.1 (omega arith) l.invariant c.product-x.ensures
+
+pub returns : goal.returns
+returns c =
+    let a = c.args in
+    let l = c.loop-k in
+    end a.m a.p a.c l.sum l.x l.k (omega arith) l.invariant

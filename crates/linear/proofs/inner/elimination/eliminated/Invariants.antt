@@ -1,0 +1,23 @@
+-- `eliminated` meets its contract: the search yields the definition's pivot, and each column is the definition's step. Assumes nothing.
+use mathlib.Core.Path.{◌≡◌, sym, ◌∙◌}
+use mathlib.Core.Logic.{⊎_elim}
+use Prim.Native.Nat.{◌-◌}
+use native.Mathlib.Omega.{arith}
+use borrow.Author.Rules.{rules}
+use Rattle.algebra.specs.Search.{first}
+use Rattle.algebra.proofs.Seeking.{Seeking, seeking_start, seeking_skip, seeking_here, seeking_end}
+use Rattle.linear.specs.Limits.{places}
+use Rattle.linear.proofs.Columns.{may_pivot, Columns, columns_start, columns_some, columns_none, columns_end}
+use Rattle.linear.proofs.inner.elimination.eliminated.Given as goal
+
+abbrev pub invariant-loop-i : goal.invariant-loop-i
+invariant-loop-i l = Seeking (may_pivot l.m l.k l.a l.marks) places l.i
+
+abbrev pub decreases-loop-i : goal.decreases-loop-i
+decreases-loop-i l = places - l.i
+
+abbrev pub invariant-loop-k : goal.invariant-loop-k
+invariant-loop-k l = Columns l.m l.initial.a l.a l.marks l.k
+
+abbrev pub decreases-loop-k : goal.decreases-loop-k
+decreases-loop-k l = l.m - l.k

@@ -1,0 +1,12 @@
+-- `doubled` meets its contract. Assumes nothing.
+use Prim.Native.Nat.{◌-◌}
+use native.Mathlib.Omega.{arith}
+use borrow.Author.Rules.{rules}
+use Rattle.linear.proofs.Doubling.{Doubled, doubled_start, doubled_turn, doubled_end}
+use Rattle.linear.proofs.inner.listing.doubled.Given as goal
+
+abbrev pub invariant-loop-i : goal.invariant-loop-i
+invariant-loop-i l = Doubled l.d l.size l.initial.list l.list l.i
+
+abbrev pub decreases-loop-i : goal.decreases-loop-i
+decreases-loop-i l = l.size - l.i

@@ -1,0 +1,15 @@
+-- `rows_of` meets its contract: the columns are joined one after another. Assumes nothing.
+use mathlib.Core.Path.{◌≡◌, sym, ap, ◌∙◌}
+use Prim.Native.Nat.{ℕ, ◌-◌, ◌≤◌}
+use native.Mathlib.Omega.{arith}
+use borrow.Author.Rules.{rules}
+use lib.ListN.{get_or}
+use Rattle.linear.specs.Matrix.{with_column}
+use Rattle.linear.proofs.Matrix.{columns_done, columns_none, columns_more, columns_all}
+use Rattle.linear.proofs.inner.system.rows_of.Given as goal
+
+abbrev pub invariant-loop-j : goal.invariant-loop-j
+invariant-loop-j l = (l.j ≤ l.m) × (l.rows ≡ columns_done (λ (k : ℕ). get_or l.columns k 0) l.j)
+
+abbrev pub decreases-loop-j : goal.decreases-loop-j
+decreases-loop-j l = l.m - l.j

@@ -1,0 +1,9 @@
+-- `product` ends: the bits that are left run out. Assumes nothing.
+use borrow.Author.Rules.{rules}
+use Rattle.trial.proofs.inner.plain.product.Given as goal
+
+abbrev pub invariant-loop-rest : goal.invariant-loop-rest
+invariant-loop-rest l = Unit {0}
+
+abbrev pub decreases-loop-rest : goal.decreases-loop-rest
+decreases-loop-rest l = l.rest
