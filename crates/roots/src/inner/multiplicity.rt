@@ -77,7 +77,7 @@ fn ones(count: usize) -> [u32; MOST_ROOTS]
 
 fn counted(p: u32, m: u32, f: [u32; MOST_COEFFICIENTS], found: Found) -> [u32; MOST_ROOTS]
     requires { Ready m p f × (found ≡ found_of (roots_of m p f)) }
-    ensures* { λ r. ⌜ r ≡ padded most_roots (map (λ r. multiplicity p r f) (roots_of m p f)) ⌝ }
+    ensures { result ≡ padded most_roots (map (λ r. multiplicity p r f) (roots_of m p f)) }
 {
     let roots = found.roots;
     let mut out: [u32; MOST_ROOTS] = [0; MOST_ROOTS];
@@ -95,7 +95,7 @@ pub fn multiplicities(
     found: Found,
 ) -> [u32; MOST_ROOTS]
     requires { Ready m p f × (found ≡ found_of (roots_of m p f)) }
-    ensures* { λ r. ⌜ r ≡ padded most_roots (map (λ r. multiplicity p r f) (roots_of m p f)) ⌝ }
+    ensures { result ≡ padded most_roots (map (λ r. multiplicity p r f) (roots_of m p f)) }
 {
     if found.count == degree(f) {
         return ones(found.count);

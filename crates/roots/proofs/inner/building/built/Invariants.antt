@@ -1,0 +1,12 @@
+-- `built` meets its contract: the roots from place i on are in. Assumes nothing.
+use native.Mathlib.Omega.{arith}
+use borrow.Author.Rules.{rules}
+use Rattle.galois.proofs.Polynomial.{coeff_at}
+use Rattle.roots.proofs.FromRoots.{Built, building_start, building_small, building_next, building_end}
+use Rattle.roots.proofs.inner.building.built.Given as goal
+
+abbrev pub invariant-loop-i : goal.invariant-loop-i
+invariant-loop-i l = Built l.p l.roots l.f l.i
+
+abbrev pub decreases-loop-i : goal.decreases-loop-i
+decreases-loop-i l = l.i

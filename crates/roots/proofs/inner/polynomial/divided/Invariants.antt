@@ -1,0 +1,11 @@
+-- `divided` meets its contract: from place i on the values are those of the polynomial's tails. Assumes nothing.
+use native.Mathlib.Omega.{arith}
+use borrow.Author.Rules.{rules}
+use Rattle.roots.proofs.Division.{Dividing, dividing_start, dividing_next, dividing_end, dividing_lt}
+use Rattle.roots.proofs.inner.polynomial.divided.Given as goal
+
+abbrev pub invariant-loop-i : goal.invariant-loop-i
+invariant-loop-i l = Dividing l.p l.r l.f l.out l.i
+
+abbrev pub decreases-loop-i : goal.decreases-loop-i
+decreases-loop-i l = l.i
