@@ -1,0 +1,22 @@
+-- `put_directions` meets its contract. Assumes nothing.
+use mathlib.Core.Path.{◌≡◌, refl}
+use Prim.Native.Nat.{◌-◌, ◌≤◌}
+use native.Mathlib.Omega.{arith}
+use borrow.Author.Rules.{rules}
+use Rattle.frames.specs.Text.{up_to, put_bytes}
+use Rattle.frames.specs.Answer.{direction_bytes}
+use Rattle.frames.proofs.Writing.{put_none, put_more, put_all}
+use Rattle.frames.proofs.inner.answer.put_directions.Goals as goal
+
+pub loop-i-init : goal.loop-i-init
+loop-i-init c = (omega arith, put_none _ _)
+
+pub loop-i-preserved : goal.loop-i-preserved
+loop-i-preserved c =
+    let l = c.loop-i in
+    (omega arith, put_more _ _ 2 6 l.i _ (λ i. refl) l.invariant.1 c.put_element.ensures refl)
+
+pub returns : goal.returns
+returns c =
+    let l = c.loop-i in
+    put_all _ _ 6 l.i c.args.count l.invariant.1 (omega arith)

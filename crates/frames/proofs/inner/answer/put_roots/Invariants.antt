@@ -1,0 +1,15 @@
+-- `put_roots` meets its contract. Assumes nothing.
+use mathlib.Core.Path.{◌≡◌, refl}
+use Prim.Native.Nat.{◌-◌, ◌≤◌}
+use native.Mathlib.Omega.{arith}
+use borrow.Author.Rules.{rules}
+use Rattle.frames.specs.Text.{up_to, put_bytes}
+use Rattle.frames.specs.Answer.{root_bytes}
+use Rattle.frames.proofs.Writing.{put_none, put_more, put_all}
+use Rattle.frames.proofs.inner.answer.put_roots.Given as goal
+
+abbrev pub invariant-loop-i : goal.invariant-loop-i
+invariant-loop-i l = (l.i ≤ l.count) × (l.out ≡ put_bytes l.initial.out 3 (up_to (root_bytes l.roots l.multiplicities) l.i))
+
+abbrev pub decreases-loop-i : goal.decreases-loop-i
+decreases-loop-i l = l.count - l.i

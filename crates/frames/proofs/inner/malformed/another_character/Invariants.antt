@@ -1,0 +1,19 @@
+-- `another_character` meets its contract: it looks at each character until one is no digit. Assumes nothing.
+use mathlib.Core.Path.{◌≡◌, sym, ◌∙◌}
+use mathlib.Core.Bool.{false}
+use Prim.Native.Nat.{ℕ, ◌-◌, ◌<◌}
+use native.Mathlib.Omega.{arith}
+use borrow.Author.Count.{below_more}
+use borrow.Author.Rules.{rules}
+use borrow.Author.Tests.{eq-eqb, ne_eqb}
+use lib.Dec.{eqb}
+use lib.ListN.{get_or}
+use Rattle.algebra.proofs.Search.{some_one, some_none}
+use Rattle.frames.specs.Frame.{digit_value, another_character}
+use Rattle.frames.proofs.inner.malformed.another_character.Given as goal
+
+abbrev pub invariant-loop-i : goal.invariant-loop-i
+invariant-loop-i l = (j : ℕ) → j < l.i → eqb (digit_value (get_or l.line j 0)) 16 ≡ false
+
+abbrev pub decreases-loop-i : goal.decreases-loop-i
+decreases-loop-i l = l.i-end - l.i

@@ -1,0 +1,15 @@
+-- `kept` meets its contract: each turn stores the next byte. Assumes nothing.
+use mathlib.Core.Path.{◌≡◌, refl, ap, ◌∙◌}
+use Prim.Native.Nat.{◌-◌, ◌≤◌}
+use native.Mathlib.Omega.{arith}
+use borrow.Author.Rules.{rules}
+use lib.ListN.{length, take}
+use lib.Seq.{sets, length-sets}
+use Rattle.frames.proofs.Keeping.{kept_turn, kept_all}
+use Rattle.frames.proofs.inner.stream.kept.Given as goal
+
+abbrev pub invariant-loop-i : goal.invariant-loop-i
+invariant-loop-i l = (l.i ≤ l.fit) × (l.line ≡ sets l.initial.line l.n (take l.i l.bytes))
+
+abbrev pub decreases-loop-i : goal.decreases-loop-i
+decreases-loop-i l = l.fit - l.i
