@@ -92,7 +92,7 @@ def small(word):
     word = WORDS.get(word, word)
     if word[:1].isupper():
         return word
-    return re.sub(r"(?<=[a-z0-9])([A-Z])", lambda m: "_" + m.group(1).lower(), word)
+    return re.sub(r"(?<=[a-zA-Z0-9])([A-Z])", lambda m: "_" + m.group(1).lower(), word)
 
 
 def renamed(name, joined):

@@ -51,8 +51,8 @@ abbrev pub element_outcome : ℕ → ℕ → Outcome ℕ
 element_outcome p n = outcome (element_tests p n) (element_of p n)
 
 -- "exponent to element by the power of x"
-abbrev pub power_of_xOutcome : ℕ → ℤ → Outcome ℕ
-power_of_xOutcome p e = outcome (polynomial_tests p) (power_of (degree_of p) p 2 e)
+abbrev pub power_of_x_outcome : ℕ → ℤ → Outcome ℕ
+power_of_x_outcome p e = outcome (polynomial_tests p) (power_of (degree_of p) p 2 e)
 
 -- "asked for another degree: number 1"
 abbrev pub house_outcome : ℕ → Outcome ℕ

@@ -4,7 +4,7 @@
 
 ghost use Rattle.std.specs.Prelude.{◌≡◌};
 ghost use Rattle.field.specs.Answers.{of_degree, of_element, of_trace, of_number, of_polynomial};
-ghost use Rattle.field.specs.Calls.{accept_outcome, sum_outcome, product_outcome, quotient_outcome, power_outcome, square_root_outcome, trace_outcome, number_outcome, element_outcome, power_of_xOutcome, house_outcome};
+ghost use Rattle.field.specs.Calls.{accept_outcome, sum_outcome, product_outcome, quotient_outcome, power_outcome, square_root_outcome, trace_outcome, number_outcome, element_outcome, power_of_x_outcome, house_outcome};
 
 pub mod inner;
 pub mod limits;
@@ -170,7 +170,7 @@ pub fn element_of_number(p: u32, n: LogNumber) -> ElementAnswer
 
 // Exponent to element.
 pub fn power_of_x(p: u32, e: Exponent) -> ElementAnswer
-    ensures { of_element result ≡ power_of_xOutcome p e.0 }
+    ensures { of_element result ≡ power_of_x_outcome p e.0 }
 {
     let refused = refusal::of_polynomial(p);
     if refused != 0 {

@@ -20,7 +20,7 @@ use Rattle.arithmetic.specs.Number.{number_of, element_of}
 use Rattle.field.specs.Limits.{smallest_degree, largest_degree}
 use Rattle.field.specs.Refusal.{Test, ◌⇒◌, refusal, Outcome, turned_down, gives, answer_by, outcome, polynomial_tests, element_tests, elements_tests}
 use Rattle.field.specs.House.{house_entry}
-use Rattle.field.specs.Calls.{accept_outcome, sum_outcome, product_outcome, quotient_outcome, power_outcome, square_root_outcome, trace_outcome, number_outcome, element_outcome, power_of_xOutcome, house_outcome}
+use Rattle.field.specs.Calls.{accept_outcome, sum_outcome, product_outcome, quotient_outcome, power_outcome, square_root_outcome, trace_outcome, number_outcome, element_outcome, power_of_x_outcome, house_outcome}
 use Rattle.affine.specs.Equation.{is_root, all_roots, base_of, directions_of, root_at}
 use Rattle.affine.specs.Calls.{place_outcome, listing_tests, listing_outcome}
 use Rattle.affine.specs.Calls as affine
@@ -66,7 +66,7 @@ number_refuses p a = outcome_refuses (element_tests p a) (number_of (degree_of p
 pub element_refuses : (p n : ℕ) → Refuses (element_outcome p n)
 element_refuses p n = outcome_refuses (element_tests p n) (element_of p n)
 
-pub power_of_x_refuses : (p : ℕ) (e : ℤ) → Refuses (power_of_xOutcome p e)
+pub power_of_x_refuses : (p : ℕ) (e : ℤ) → Refuses (power_of_x_outcome p e)
 power_of_x_refuses p e = outcome_refuses (polynomial_tests p) (power_of (degree_of p) p 2 e)
 
 pub place_refuses : (p : ℕ) (cs : List ℕ) (n : ℕ) → Refuses (place_outcome p cs n)

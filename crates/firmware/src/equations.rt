@@ -39,8 +39,7 @@ fn put_roots(
 }
 
 // Every root of the polynomial with these coefficients, constant first, with its multiplicity.
-#[unsafe(no_mangle)]
-pub extern "C" fn gfroots_solve(
+pub fn gfroots_solve(
     p: u32,
     coefficients: &[u32],
     count: &mut [u32],
@@ -74,8 +73,7 @@ fn put_coefficients(built: [u32; MOST_COEFFICIENTS], coefficients: &mut [u32]) -
 }
 
 // The coefficients of the product of all (x + r), constant first, in five places.
-#[unsafe(no_mangle)]
-pub extern "C" fn gfroots_build(p: u32, roots: &[u32], coefficients: &mut [u32]) -> u32
+pub fn gfroots_build(p: u32, roots: &[u32], coefficients: &mut [u32]) -> u32
     ensures value { result ≡ returned (build_answer p roots.now).says (fits most_coefficients coefficients.old) }
     ensures coefficients_after { coefficients.new ≡ after result (build_answer p roots.now).coefficients coefficients.old }
 {

@@ -8,8 +8,7 @@ use field::refused;
 use frames::limits::ANSWER_ROOM;
 
 // The answer to one line, without line feeds, and how many characters it has.
-#[unsafe(no_mangle)]
-pub extern "C" fn gfroots_answer_line(line: &[u8], count: &mut [u32], answer: &mut [u8]) -> u32
+pub fn gfroots_answer_line(line: &[u8], count: &mut [u32], answer: &mut [u8]) -> u32
     ensures value { result ≡ room_number (line_fits answer.old count.old) }
     ensures count_after { count.new ≡ after result (length (answer_text line.now) ∷ []) count.old }
     ensures answer_after { answer.new ≡ after result (answer_text line.now) answer.old }
@@ -23,6 +22,6 @@ pub extern "C" fn gfroots_answer_line(line: &[u8], count: &mut [u32], answer: &m
     if no_room != 0 {
         return no_room;
     }
-    bytes::copy(&out[..n], answer);
+    answer[..n].copy_from_slice(&out[..n]);
     0
 }

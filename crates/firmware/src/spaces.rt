@@ -39,8 +39,7 @@ fn put_space(
 }
 
 // All roots, as base and directions: found or not, k and the base in one list, the directions in the other.
-#[unsafe(no_mangle)]
-pub extern "C" fn gfroots_affine_solve(
+pub fn gfroots_affine_solve(
     p: u32,
     coefficients: &[u32],
     space: &mut [u32],
@@ -62,13 +61,7 @@ pub extern "C" fn gfroots_affine_solve(
 }
 
 // The root at place n, from 0, in ascending order.
-#[unsafe(no_mangle)]
-pub extern "C" fn gfroots_root_at_place(
-    p: u32,
-    coefficients: &[u32],
-    n: u32,
-    root: &mut [u32],
-) -> u32
+pub fn gfroots_root_at_place(p: u32, coefficients: &[u32], n: u32, root: &mut [u32]) -> u32
     ensures value { result ≡ returned (place_outcome p coefficients.now n) (fits 1 root.old) }
     ensures root_after { root.new ≡ after result (value_of (place_outcome p coefficients.now n)) root.old }
 {
@@ -89,8 +82,7 @@ fn without_count(p: u32, coefficients: &[u32]) -> u32
 }
 
 // All roots, ascending, at the front of the lent list, and how many they are.
-#[unsafe(no_mangle)]
-pub extern "C" fn gfroots_list_roots(
+pub fn gfroots_list_roots(
     p: u32,
     coefficients: &[u32],
     count: &mut [u32],
