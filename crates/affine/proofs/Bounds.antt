@@ -16,7 +16,7 @@ use Rattle.binary.specs.Factor.{degree_of}
 use Rattle.binary.proofs.Xor.{zero_xor}
 use Rattle.binary.proofs.Additive.{additive_zero}
 use Rattle.galois.specs.Polynomial.{Coeffs, AllZero}
-use Rattle.galois.specs.Affine.{linear_at, affine_at}
+use Rattle.galois.specs.Affine.{affine_at}
 use Rattle.galois.proofs.Affine.{linear_at-xor, linear_at_zeros}
 use Rattle.galois.proofs.AffineList.{affine_few}
 use Rattle.field.specs.Accepted.{Accepted}

@@ -16,7 +16,7 @@ use Rattle.binary.proofs.Xor.{zero_xor}
 use Rattle.binary.proofs.Additive.{Additive, additive_zero}
 use Rattle.binary.specs.Factor.{degree_of}
 use Rattle.galois.specs.Field.{Field}
-use Rattle.galois.specs.Affine.{linear_at, affine_at}
+use Rattle.galois.specs.Affine.{linear_at}
 use Rattle.galois.proofs.Affine.{linear_at-xor, affine_at-xor}
 use Rattle.linear.specs.Limits.{places, width}
 use Rattle.linear.specs.Directions.{choose}

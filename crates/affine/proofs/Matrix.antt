@@ -6,7 +6,7 @@ use mathlib.Core.List.{List}
 use Prim.Native.Nat.{ℕ, ◌^◌, ◌≤◌, ◌<◌}
 use native.Mathlib.Omega.{arith}
 use borrow.Author.Tests.{eq-eqb}
-use lib.Dec.{T, eqb, eqb→eq}
+use lib.Dec.{T, eqb→eq}
 use lib.ListN.{get_or, drop}
 use lib.Pow.{pow_mono}
 use Rattle.algebra.proofs.Search.{same_test}
@@ -17,7 +17,6 @@ use Rattle.galois.proofs.Polynomial.{coeff_at}
 use Rattle.galois.specs.Affine.{linear_at, affine_at}
 use Rattle.galois.proofs.Affine.{linear_at_lt, linear_at-xor}
 use Rattle.linear.specs.Limits.{places}
-use Rattle.linear.specs.System.{Kernel}
 use Rattle.linear.specs.Solution.{solution_by, solves_rows, in_kernel}
 use Rattle.linear.specs.Matrix.{rows_of}
 use Rattle.linear.proofs.Solved.{kernel_test, solves_test, solution-same}

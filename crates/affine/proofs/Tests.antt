@@ -8,7 +8,7 @@ use lib.Seq.{take_all}
 use Rattle.binary.specs.Factor.{degree_of}
 use Rattle.galois.specs.Polynomial.{Coeffs}
 use Rattle.field.specs.Accepted.{Accepted}
-use Rattle.field.specs.Refusal.{Test, refusal}
+use Rattle.field.specs.Refusal.{refusal}
 use Rattle.field.proofs.Refusal.{passes, accepted}
 use Rattle.field.proofs.Coefficients.{count_some, count_few, coefficients_small}
 use Rattle.affine.specs.Equation.{Ready}

@@ -5,12 +5,12 @@ use mathlib.Core.Path.{◌≡◌, sym, ap, ap₂, ◌∙◌, subst}
 use mathlib.Core.Logic.{◌↔◌}
 use mathlib.Core.Bool.{true, false}
 use mathlib.Core.List.{List, [], ◌∷◌, map}
-use Prim.Native.Nat.{ℕ, zero, ◌^◌, ◌<◌}
+use Prim.Native.Nat.{ℕ, ◌^◌, ◌<◌}
 use native.Mathlib.Omega.{arith}
 use borrow.Author.Tests.{ltb-true}
 use lib.Dec.{T}
 use lib.ListN.{length, get_or, drop}
-use Rattle.algebra.specs.Lists.{Member, Ascending, count_up, keep}
+use Rattle.algebra.specs.Lists.{Member, Ascending, count_up}
 use Rattle.algebra.specs.Search.{first, some_below}
 use Rattle.algebra.proofs.Search.{is_true}
 use Rattle.algebra.proofs.CountUp.{kept_iff, kept_ascending, keep_all, map-count_up}

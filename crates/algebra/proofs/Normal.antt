@@ -5,7 +5,6 @@ use mathlib.Core.Bool.{Bool, true, false}
 use Prim.Native.Nat.{ℕ, zero, suc, ◌+◌, ◌/◌, ◌%◌, ◌<◌, compare, Ordering}
 use native.Mathlib.Omega.{arith}
 use lib.Dec.{T, compare_is_eq, eqb→eq}
-use Rattle.algebra.specs.Expression
 use Rattle.algebra.specs.Expression.{Expr, var, O, I, ◌⊕◌, ◌⊗◌, sq, pow, Mono, end, ◌▹◌, Poly, nil, ◌⊞◌, Rows, ◌⊟◌, rows, total, pairs, gather, shorter, force_m, force, mul_f, cmp, mul_m, sq_m, unit, merge_in, merge, scale, mul_p, sq_p, one_p, lin_p, oddly, pow_p, normal, same_p, agree}
 use Rattle.algebra.specs.Ring.{Ring2}
 use Rattle.algebra.proofs.RingLaws.{pw, zer_add, one-mul, add_left, mul_inter, cancel, mul_zer, zer_mul, add-mul, sq_add, pw_add}

@@ -1,13 +1,13 @@
 -- When a line is malformed: a law for each test that the code makes (`too_long`, `odd_digits`, `few_bytes`, `other_character`, `other_kind`,
 -- `wrong_length`), and `well_formed` where none applies. Assumes nothing.
-use mathlib.Core.Path.{◌≡◌, refl, sym, ap, ◌∙◌}
+use mathlib.Core.Path.{◌≡◌, refl, sym, ◌∙◌}
 use mathlib.Core.Logic.{◌≢◌}
 use mathlib.Core.Bool.{true, false, not, false≢true}
 use mathlib.Core.List.{List, [], ◌∷◌}
 use Prim.Native.Nat.{ℕ, zero, suc, ◌/◌, ◌%◌, ◌≤◌, ◌<◌}
 use native.Mathlib.Omega.{arith}
 use borrow.Author.Tests.{lt-ltb, le-ltb, eq-eqb, ne_eqb}
-use lib.Dec.{eqb, ltb}
+use lib.Dec.{eqb}
 use lib.ListN.{length}
 use Rattle.field.specs.Refusal.{Test, ◌⇒◌, refusal}
 use Rattle.field.proofs.Refusal.{none_applies}

@@ -12,7 +12,7 @@ use Rattle.binary.specs.Xor.{◌⊕◌}
 use Rattle.binary.proofs.Xor.{is_xor}
 use Rattle.binary.specs.Product.{product}
 use Rattle.galois.specs.Field.{Field}
-use Rattle.galois.specs.Polynomial.{value, Coeffs, sums, without_root, Root}
+use Rattle.galois.specs.Polynomial.{value, Coeffs, sums, without_root}
 use Rattle.galois.specs.Multiplicity.{multiplicity}
 use Rattle.galois.proofs.Field.{ring}
 use Rattle.galois.proofs.Multiplicity.{multiplicity_none, multiplicity_root}

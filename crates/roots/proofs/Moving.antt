@@ -5,7 +5,7 @@ use mathlib.Core.List.{List, [], ◌∷◌, ◌++◌, map}
 use Prim.Native.Nat.{ℕ, zero, suc, ◌+◌, ◌-◌, ◌^◌, ◌≤◌, ◌<◌}
 use native.Mathlib.Omega.{arith}
 use lib.Bits.{bit_xor}
-use lib.ListN.{length, get_or, set, take, drop, length-set}
+use lib.ListN.{get_or, set, take, drop, length-set}
 use lib.Seq.{length-take-le, get_or-take, take-suc-set, take-append-le}
 use Rattle.algebra.proofs.Filled.{Filled, filled_put}
 use Rattle.algebra.proofs.Places.{filled_mapped}

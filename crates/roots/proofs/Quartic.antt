@@ -20,7 +20,6 @@ use Rattle.binary.specs.Product.{product}
 use Rattle.binary.proofs.Product.{product-zero, product_comm}
 use Rattle.binary.proofs.Inverse.{no_zero_divisors}
 use Rattle.galois.specs.Field.{Field}
-use Rattle.galois.specs.Power.{power}
 use Rattle.galois.specs.Polynomial.{value, Root}
 use Rattle.galois.specs.Roots.{roots_of}
 use Rattle.galois.proofs.Field.{one_lt, ring}

@@ -7,7 +7,7 @@ use Prim.Native.Nat.{ℕ, ◌^◌, ◌<◌}
 use lib.Pow.{pow_pos}
 use Rattle.algebra.specs.Expression.{Expr, var, O, I, ◌⊕◌ as ◌∔◌, ◌⊗◌}
 use Rattle.algebra.specs.Search.{first_from, first}
-use Rattle.algebra.proofs.Identity.{Elem, ring_on, ring_on_given, alone, using_eq}
+use Rattle.algebra.proofs.Identity.{Elem, ring_on_given, alone, using_eq}
 use Rattle.binary.specs.Xor.{◌⊕◌}
 use Rattle.binary.proofs.Xor.{xor_self, xor_lt, equal_of_xor}
 use Rattle.binary.specs.Fold.{fold, fold_f}

@@ -1,6 +1,6 @@
 -- From the roots found to the answer: the equation is ready (`solve_ready`), and what was found is the call's answer (`solve_answer_lem`).
 -- Assumes nothing.
-use mathlib.Core.Path.{◌≡◌, ap, ap₂, ◌∙◌}
+use mathlib.Core.Path.{◌≡◌, ap₂, ◌∙◌}
 use mathlib.Core.List.{List, map}
 use Prim.Native.Nat.{ℕ}
 use Rattle.algebra.specs.Lists.{padded}
@@ -10,7 +10,7 @@ use Rattle.galois.specs.Multiplicity.{multiplicity}
 use Rattle.field.specs.Refusal.{refusal, gives}
 use Rattle.field.proofs.Refusal.{answered_by}
 use Rattle.roots.specs.Limits.{most_roots, most_coefficients}
-use Rattle.roots.specs.Calls.{Answer, equation_tests, refused_answer, solved, solve_answer}
+use Rattle.roots.specs.Calls.{equation_tests, refused_answer, solved, solve_answer}
 use Rattle.roots.specs.Equation.{Ready}
 use Rattle.roots.specs.Sorting.{found_of}
 use Rattle.roots.specs.declared.inner.sorting.Found.{Found}

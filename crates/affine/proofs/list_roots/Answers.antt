@@ -5,7 +5,6 @@ use mathlib.Core.List.{List, ◌++◌}
 use Prim.Native.Nat.{ℕ, ◌<◌}
 use lib.ListN.{drop}
 use native.Mathlib.Omega.{arith}
-use borrow.Author.Rules.{rules}
 use Rattle.affine.proofs.Tests.{equation_ready}
 use Rattle.affine.proofs.Found.{count_fits, count_is, listing_is, listing_count, listing_ready}
 use Rattle.affine.proofs.Listing.{listing_refused, listing_short, listing_none, listing_done}

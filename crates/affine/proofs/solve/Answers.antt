@@ -1,6 +1,5 @@
 -- `solve` meets its contract. Assumes nothing.
 use mathlib.Core.Path.{sym, ◌∙◌}
-use borrow.Author.Rules.{rules}
 use Rattle.field.proofs.Refusal.{refused_by, answered_by}
 use Rattle.affine.specs.Calls.{equation_tests, refused_answer}
 use Rattle.affine.proofs.Tests.{equation_ready}

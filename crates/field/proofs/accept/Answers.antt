@@ -1,6 +1,5 @@
 -- `accept` meets its contract. Assumes nothing.
 use mathlib.Core.Path.{sym, ◌∙◌}
-use borrow.Author.Rules.{rules}
 use Rattle.field.specs.Refusal.{polynomial_tests}
 use Rattle.field.proofs.Refusal.{down, given, accepted}
 use Rattle.field.proofs.accept.Goals as goal

@@ -1,6 +1,5 @@
 -- `element_of_number` meets its contract. Assumes nothing.
 use mathlib.Core.Path.{sym, ◌∙◌}
-use borrow.Author.Rules.{rules}
 use Rattle.field.specs.Refusal.{element_tests}
 use Rattle.field.proofs.Refusal.{down, given, element_passed}
 use Rattle.field.proofs.Ready.{element_ready}

@@ -4,7 +4,6 @@ use mathlib.Core.Bool.{or-true}
 use Prim.Native.Nat.{ℕ, ◌≤◌, ◌<◌}
 use native.Mathlib.Omega.{arith}
 use lib.Dec.{ltb}
-use borrow.Author.Rules.{rules}
 use borrow.Author.Tests.{lt-ltb, le-ltb}
 use Rattle.field.specs.Limits.{smallest_degree, largest_degree}
 use Rattle.field.specs.Refusal.{turned_down, gives}

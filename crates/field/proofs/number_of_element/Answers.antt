@@ -1,7 +1,6 @@
 -- `number_of_element` meets its contract. Assumes nothing.
 use mathlib.Core.Path.{sym, ap, ◌∙◌}
 use Prim.Native.Nat.{ℕ}
-use borrow.Author.Rules.{rules}
 use Rattle.arithmetic.specs.Number.{number_of}
 use Rattle.field.specs.Refusal.{element_tests}
 use Rattle.field.proofs.Refusal.{down, given, element_passed}

@@ -1,7 +1,6 @@
 -- `square_root` meets its contract. Assumes nothing.
 use mathlib.Core.Path.{sym, ap, ◌∙◌}
 use Prim.Native.Nat.{ℕ, ◌-◌, ◌^◌}
-use borrow.Author.Rules.{rules}
 use Rattle.galois.specs.Power.{power}
 use Rattle.field.specs.Refusal.{element_tests}
 use Rattle.field.proofs.Refusal.{down, given, element_passed}

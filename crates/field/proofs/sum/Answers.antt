@@ -1,6 +1,5 @@
 -- `sum` meets its contract. Assumes nothing.
 use mathlib.Core.Path.{sym, ◌∙◌}
-use borrow.Author.Rules.{rules}
 use Rattle.binary.proofs.Xor.{is_xor}
 use Rattle.field.specs.Refusal.{elements_tests}
 use Rattle.field.proofs.Refusal.{down, given}

@@ -2,7 +2,6 @@
 use mathlib.Core.Path.{ap, sym, ◌∙◌}
 use Prim.Native.Nat.{ℕ, ◌*◌}
 use native.Mathlib.Omega.{arith}
-use borrow.Author.Rules.{rules}
 use Rattle.frames.specs.Answer.{answer_bytes, answer_text}
 use Rattle.frames.proofs.Writing.{text-length, put_text}
 use Rattle.frames.proofs.Fitting.{answer_short}

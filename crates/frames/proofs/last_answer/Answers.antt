@@ -1,7 +1,6 @@
 -- `last_answer` meets its contract. Assumes nothing.
 use mathlib.Core.Path.{◌∙◌}
 use native.Mathlib.Omega.{arith}
-use borrow.Author.Rules.{rules}
 use Rattle.frames.proofs.OneCall.{no_line, input_ends}
 use Rattle.frames.proofs.last_answer.Goals as goal
 

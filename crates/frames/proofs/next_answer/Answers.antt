@@ -3,7 +3,6 @@ use mathlib.Core.Path.{◌≡◌, sym, ◌∙◌}
 use lib.ListN.{length}
 use Rattle.frames.specs.Limits.{most_digits}
 use native.Mathlib.Omega.{arith}
-use borrow.Author.Rules.{rules}
 use lib.Seq.{length-take-le}
 use Rattle.frames.proofs.Feeds.{feed_within}
 use Rattle.frames.proofs.OneCall.{goes_on, line_ends}

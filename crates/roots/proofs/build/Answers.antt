@@ -2,7 +2,6 @@
 use mathlib.Core.Path.{sym, ap, ◌∙◌, subst}
 use mathlib.Core.List.{List}
 use Prim.Native.Nat.{ℕ}
-use borrow.Author.Rules.{rules}
 use Rattle.galois.specs.Polynomial.{Coeffs}
 use Rattle.field.specs.Refusal.{gives}
 use Rattle.field.proofs.Ready.{ready}

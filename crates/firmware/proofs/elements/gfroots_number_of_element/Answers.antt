@@ -3,7 +3,6 @@ use mathlib.Core.Path.{sym, ap, ◌∙◌}
 use Rattle.field.specs.Answers.{of_number}
 use Rattle.firmware.proofs.Room.{one_down, one_same}
 use Rattle.firmware.proofs.Refusing.{number_refuses}
-use borrow.Author.Rules.{rules}
 use Rattle.firmware.proofs.elements.gfroots_number_of_element.Goals as goal
 
 pub returns-in-TurnedDown : goal.returns-in-TurnedDown

@@ -4,7 +4,6 @@ use mir.Facts.{to_z-of_z}
 use Rattle.firmware.specs.Lent.{Refuses}
 use Rattle.firmware.proofs.Room.{one_same}
 use Rattle.firmware.proofs.Refusing.{power_refuses}
-use borrow.Author.Rules.{rules}
 use Rattle.firmware.proofs.elements.gfroots_power.Goals as goal
 
 pub put_element-requires : goal.put_element-requires

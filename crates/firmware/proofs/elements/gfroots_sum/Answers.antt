@@ -3,7 +3,6 @@ use mathlib.Core.Path.{sym, subst}
 use Rattle.firmware.specs.Lent.{Refuses}
 use Rattle.firmware.proofs.Room.{one_same}
 use Rattle.firmware.proofs.Refusing.{sum_refuses}
-use borrow.Author.Rules.{rules}
 use Rattle.firmware.proofs.elements.gfroots_sum.Goals as goal
 
 pub put_element-requires : goal.put_element-requires

@@ -4,7 +4,6 @@ use Rattle.roots.specs.Answers.{of_building}
 use Rattle.roots.specs.Calls.{Built}
 use Rattle.firmware.proofs.Refusing.{build_refuses}
 use Rattle.firmware.proofs.Answers.{built_down, built_found}
-use borrow.Author.Rules.{rules}
 use Rattle.firmware.proofs.equations.gfroots_build.Goals as goal
 
 pub returns-in-TurnedDown : goal.returns-in-TurnedDown

@@ -4,7 +4,6 @@ use Rattle.roots.specs.Answers.{of_root_count}
 use Rattle.roots.specs.Calls.{Answer}
 use Rattle.firmware.proofs.Refusing.{solve_refuses}
 use Rattle.firmware.proofs.Answers.{roots_down, roots_found}
-use borrow.Author.Rules.{rules}
 use Rattle.firmware.proofs.equations.gfroots_solve.Goals as goal
 
 pub returns-in-TurnedDown : goal.returns-in-TurnedDown

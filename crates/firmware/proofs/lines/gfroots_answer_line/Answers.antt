@@ -2,9 +2,7 @@
 use mathlib.Core.Path.{refl, sym, ap, ◌∙◌}
 use mathlib.Core.List.{[], ◌∷◌}
 use Prim.Native.Nat.{ℕ}
-use native.Mathlib.Omega.{arith}
 use lib.ListN.{replicate}
-use lib.Seq.{length-take-le}
 use Rattle.frames.specs.Limits.{answer_room}
 use Rattle.frames.specs.Answer.{answer_text}
 use Rattle.firmware.specs.Lent.{fits, room_number, after}

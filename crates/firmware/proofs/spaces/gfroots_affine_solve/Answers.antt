@@ -4,7 +4,6 @@ use Rattle.affine.specs.Answers.{of_space}
 use Rattle.affine.specs.Calls.{Answer}
 use Rattle.firmware.proofs.Refusing.{affine_refuses}
 use Rattle.firmware.proofs.Answers.{space_down, space_found}
-use borrow.Author.Rules.{rules}
 use Rattle.firmware.proofs.spaces.gfroots_affine_solve.Goals as goal
 
 pub returns-in-TurnedDown : goal.returns-in-TurnedDown

@@ -4,7 +4,6 @@ use mathlib.Core.Logic.{◌≢◌}
 use native.Mathlib.Nat.{pos_of_ne-zero}
 use native.Mathlib.Omega.{arith}
 use lib.ListN.{length}
-use Rattle.field.specs.Refusal.{Outcome}
 use Rattle.affine.specs.Answers.{of_count}
 use Rattle.affine.specs.Calls.{solve_answer, listing_outcome}
 use Rattle.affine.specs.Equation.{all_roots}
@@ -13,7 +12,6 @@ use Rattle.firmware.specs.Lent.{returned, value_of, room_number}
 use Rattle.firmware.proofs.Room.{fits_long, fits_short, kept, one_down, one_same}
 use Rattle.firmware.proofs.Refusing.{affine_refuses, listing_refuses}
 use Rattle.firmware.proofs.Listing.{without_not_0, without_same, listed_down, listed}
-use borrow.Author.Rules.{rules}
 use Rattle.firmware.proofs.spaces.gfroots_list_roots.Goals as goal
 
 pub returns-then-count-eq0 : goal.returns-then-count-eq0

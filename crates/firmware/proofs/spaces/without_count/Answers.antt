@@ -5,7 +5,6 @@ use Rattle.field.specs.Refusal.{Outcome}
 use Rattle.affine.specs.Answers.{of_space}
 use Rattle.affine.specs.Calls.{Space, Answer}
 use Rattle.firmware.specs.Lent.{returned}
-use borrow.Author.Rules.{rules}
 use Rattle.firmware.proofs.spaces.without_count.Goals as goal
 
 pub returns-in-TurnedDown : goal.returns-in-TurnedDown

@@ -1,5 +1,4 @@
 -- `of_solution` meets its contract. Assumes nothing.
-use borrow.Author.Rules.{rules}
 use Rattle.affine.proofs.inner.answer.of_solution.Goals as goal
 
 pub returns-then-s : goal.returns-then-s

@@ -1,5 +1,4 @@
 -- `root_count` meets its contract. Assumes nothing.
-use borrow.Author.Rules.{rules}
 use Rattle.affine.proofs.inner.answer.root_count.Goals as goal
 
 pub returns-then-s : goal.returns-then-s

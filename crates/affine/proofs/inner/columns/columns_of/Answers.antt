@@ -1,9 +1,8 @@
 -- `columns_of` meets its contract. Assumes nothing.
-use Prim.Native.Nat.{◌-◌}
 use native.Mathlib.Omega.{arith}
 use borrow.Author.Rules.{rules}
 use Rattle.galois.proofs.Polynomial.{coeff_at}
-use Rattle.affine.proofs.Terms.{SomeTerms, terms_start, terms_turn, terms_end, step_lt}
+use Rattle.affine.proofs.Terms.{terms_start, terms_turn, terms_end, step_lt}
 use Rattle.affine.proofs.inner.columns.columns_of.Goals as goal
 
 pub loop-i-init : goal.loop-i-init

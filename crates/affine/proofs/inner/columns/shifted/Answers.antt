@@ -1,9 +1,6 @@
 -- `shifted` meets its contract. Assumes nothing.
 use mathlib.Core.Path.{◌≡◌, sym, ◌∙◌}
-use Prim.Native.Nat.{◌-◌, ◌^◌, ◌≤◌, ◌<◌}
 use native.Mathlib.Omega.{arith}
-use borrow.Author.Rules.{rules}
-use Rattle.binary.specs.Product.{product}
 use Rattle.binary.proofs.Product.{product_one}
 use Rattle.binary.proofs.Modulus.{times_x_lt}
 use Rattle.galois.specs.Power.{power}

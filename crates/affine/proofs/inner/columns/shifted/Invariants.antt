@@ -1,13 +1,8 @@
 -- `shifted` meets its contract. Assumes nothing.
-use mathlib.Core.Path.{◌≡◌, sym, ◌∙◌}
+use mathlib.Core.Path.{◌≡◌}
 use Prim.Native.Nat.{◌-◌, ◌^◌, ◌≤◌, ◌<◌}
-use native.Mathlib.Omega.{arith}
-use borrow.Author.Rules.{rules}
 use Rattle.binary.specs.Product.{product}
-use Rattle.binary.proofs.Product.{product_one}
-use Rattle.binary.proofs.Modulus.{times_x_lt}
 use Rattle.galois.specs.Power.{power}
-use Rattle.affine.proofs.Terms.{shift_more}
 use Rattle.affine.proofs.inner.columns.shifted.Given as goal
 
 abbrev pub invariant-loop-k : goal.invariant-loop-k

@@ -1,7 +1,6 @@
 -- `stepped` meets its contract: 2^i shifts are the product with x^(2^i). Assumes nothing.
 use mathlib.Core.Path.{sym, ap, ◌∙◌}
 use Prim.Native.Nat.{ℕ}
-use borrow.Author.Rules.{rules}
 use Rattle.binary.specs.Product.{product}
 use Rattle.galois.specs.Power.{power}
 use Rattle.affine.proofs.Terms.{step_lt, step_is}

@@ -1,8 +1,6 @@
 -- `with_term` meets its contract. Assumes nothing.
-use Prim.Native.Nat.{◌-◌}
 use native.Mathlib.Omega.{arith}
-use borrow.Author.Rules.{rules}
-use Rattle.affine.proofs.Terms.{OneTerm, term_start, term_turn, term_end}
+use Rattle.affine.proofs.Terms.{term_start, term_turn, term_end}
 use Rattle.affine.proofs.inner.columns.with_term.Goals as goal
 
 pub loop-j-init : goal.loop-j-init

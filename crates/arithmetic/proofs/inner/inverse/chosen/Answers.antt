@@ -6,7 +6,6 @@ use lib.Bits.{bit_xor}
 use Rattle.binary.specs.Xor.{◌⊕◌}
 use Rattle.binary.proofs.Xor.{is_xor, xor-zero, xor_twice, by_digit}
 use Rattle.arithmetic.specs.Choice.{chosen_of}
-use borrow.Author.Rules.{rules}
 use Rattle.arithmetic.proofs.inner.inverse.chosen.Goals as goal
 
 choice : (x y d t : ℕ) → d < 2 → t ≡ d * bit_xor x y → bit_xor x t ≡ chosen_of d x y

@@ -3,7 +3,6 @@ use mathlib.Core.Path.{◌≡◌, refl, ap₂, ◌∙◌}
 use mathlib.Core.Logic.{◌≢◌}
 use Prim.Native.Nat.{ℕ, zero, suc, ◌+◌}
 use native.Mathlib.Omega.{arith}
-use borrow.Author.Rules.{rules}
 use Rattle.binary.proofs.Xor.{exp_lt}
 use Rattle.arithmetic.specs.Choice.{chosen_of, less_digit}
 use Rattle.arithmetic.proofs.Steps.{Head, Ordered, order, steps_start, steps_end, step_le, steps_turn, steps_less}

@@ -1,6 +1,5 @@
 -- `quotient` meets its contract. Assumes nothing.
 use mathlib.Core.Path.{◌∙◌}
-use borrow.Author.Rules.{rules}
 use Rattle.arithmetic.proofs.Quotient.{quotient_by}
 use Rattle.arithmetic.proofs.inner.inverse.quotient.Goals as goal
 

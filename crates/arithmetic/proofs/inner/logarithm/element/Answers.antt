@@ -3,7 +3,6 @@ use mathlib.Core.Path.{◌≡◌, refl, ◌∙◌, ap}
 use Prim.Native.Nat.{ℕ, zero, suc, ◌-◌}
 use native.Mathlib.Omega.{arith}
 use lib.Pow.{pow_mono}
-use borrow.Author.Rules.{rules}
 use Rattle.galois.specs.Power.{power}
 use Rattle.arithmetic.specs.Number.{element_of}
 use Rattle.arithmetic.proofs.inner.logarithm.element.Goals as goal

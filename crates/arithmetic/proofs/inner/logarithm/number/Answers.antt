@@ -1,8 +1,7 @@
 -- `number` meets its contract. Assumes nothing.
-use Prim.Native.Nat.{◌-◌}
 use native.Mathlib.Omega.{arith}
 use lib.Pow.{pow_mono}
-use Rattle.arithmetic.proofs.Number.{Tried, tried_start, tried_turn, tried_found, tried_all}
+use Rattle.arithmetic.proofs.Number.{tried_start, tried_turn, tried_found, tried_all}
 use Rattle.arithmetic.proofs.inner.logarithm.number.Goals as goal
 
 pub power_of_two-order-requires : goal.power_of_two-order-requires

@@ -1,8 +1,6 @@
 -- `number` meets its contract. Assumes nothing.
 use Prim.Native.Nat.{◌-◌}
-use native.Mathlib.Omega.{arith}
-use lib.Pow.{pow_mono}
-use Rattle.arithmetic.proofs.Number.{Tried, tried_start, tried_turn, tried_found, tried_all}
+use Rattle.arithmetic.proofs.Number.{Tried}
 use Rattle.arithmetic.proofs.inner.logarithm.number.Given as goal
 
 abbrev pub invariant-loop-e : goal.invariant-loop-e

@@ -3,7 +3,6 @@ use mathlib.Core.Bool.{true, false}
 use Prim.Native.Nat.{suc}
 use native.Mathlib.Nat.{zero-add}
 use native.Mathlib.Omega.{arith}
-use borrow.Author.Rules.{rules}
 use borrow.Author.Tests.{leb-false}
 use lib.Dec.{T}
 use lib.IntN.{ℤ, pos, negsuc, ◌-ℤ◌, nat_abs}

@@ -2,7 +2,6 @@
 use mathlib.Core.Path.{sym, ◌∙◌}
 use mir.Facts.{to_z-of_z}
 use Rattle.arithmetic.proofs.Power.{power_plain, power_inverse}
-use borrow.Author.Rules.{rules}
 use Rattle.arithmetic.proofs.inner.power.power.Goals as goal
 
 pub inverse-base-requires : goal.inverse-base-requires

@@ -1,15 +1,8 @@
 -- `raised` meets its contract. Assumes nothing.
-use mathlib.Core.Path.{◌≡◌, sym, ap, ap₂, ◌∙◌}
-use Prim.Native.Nat.{ℕ, ◌/◌, ◌%◌, ◌<◌, ◌^◌}
-use native.Mathlib.Omega.{arith}
-use borrow.Author.Rules.{rules}
+use mathlib.Core.Path.{◌≡◌}
+use Prim.Native.Nat.{ℕ, ◌<◌, ◌^◌}
 use Rattle.binary.specs.Product.{product}
-use Rattle.binary.proofs.Product.{product_lt, product_one, one_product, product_assoc}
-use Rattle.galois.specs.Field.{Field}
-use Rattle.galois.proofs.Field.{one_lt}
 use Rattle.galois.specs.Power.{power}
-use Rattle.galois.proofs.Power.{power_lt}
-use Rattle.arithmetic.proofs.Power.{power-digit}
 use Rattle.arithmetic.proofs.inner.power.raised.Given as goal
 
 -- the result so far, times what is left of the power, is the whole

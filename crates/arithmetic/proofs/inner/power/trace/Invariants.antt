@@ -1,17 +1,8 @@
 -- `trace` meets its contract. Assumes nothing.
-use mathlib.Core.Path.{◌≡◌, refl, sym, ap, ap₂, ◌∙◌}
-use Prim.Native.Nat.{ℕ, ◌+◌, ◌-◌, ◌≤◌, ◌<◌, ◌^◌}
-use native.Mathlib.Numerals.{add-one}
-use native.Mathlib.Omega.{arith}
-use lib.Bits.{bit_xor}
-use borrow.Author.Rules.{rules}
-use Rattle.binary.specs.Xor.{◌⊕◌}
-use Rattle.binary.proofs.Xor.{is_xor}
-use Rattle.binary.specs.Product.{product}
-use Rattle.galois.specs.Field.{Field}
+use mathlib.Core.Path.{◌≡◌}
+use Prim.Native.Nat.{ℕ, ◌-◌, ◌≤◌, ◌<◌, ◌^◌}
 use Rattle.galois.specs.Power.{squares}
-use Rattle.galois.proofs.Power.{squares_lt}
-use Rattle.galois.specs.Trace.{part_trace, trace}
+use Rattle.galois.specs.Trace.{part_trace}
 use Rattle.arithmetic.proofs.inner.power.trace.Given as goal
 
 pub record Traced (m p c sum x k : ℕ) : Type 0 where

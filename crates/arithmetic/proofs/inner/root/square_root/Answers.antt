@@ -1,7 +1,6 @@
 -- `square_root` meets its contract. Assumes nothing.
 use mathlib.Core.Path.{sym, ap, ap₂, ◌∙◌}
 use native.Mathlib.Omega.{arith}
-use borrow.Author.Rules.{rules}
 use Rattle.binary.specs.Xor.{◌⊕◌}
 use Rattle.binary.proofs.Xor.{is_xor}
 use Rattle.binary.specs.Product.{product}

@@ -1,5 +1,5 @@
 -- `picked` meets its contract: the mask is 0 or all ones. Assumes nothing.
-use Rattle.std.proofs.Common.{◌≡◌, ℕ, ◌+◌, ◌-◌, ◌*◌, ◌%◌, ◌^◌, ◌<◌, ap, ◌∙◌, mod-eq_of_lt, one-mul, zero-mul, arith, rules}
+use Rattle.std.proofs.Common.{◌≡◌, ℕ, ◌+◌, ◌-◌, ◌*◌, ◌%◌, ◌^◌, ◌<◌, ap, ◌∙◌, mod-eq_of_lt, one-mul, zero-mul, arith}
 use lib.Bits.{bit_and, and_zero_r, and_mask}
 use Rattle.binary.proofs.Xor.{by_digit}
 use Rattle.binary.proofs.inner.digit.picked.Goals as goal

@@ -1,5 +1,5 @@
 -- `power_of_two` meets its contract. Assumes nothing.
-use Rattle.std.proofs.Common.{◌^◌, ◌∙◌, one-mul, arith, lit<, shl_exact, rules}
+use Rattle.std.proofs.Common.{◌^◌, ◌∙◌, one-mul, arith, lit<, shl_exact}
 use Rattle.binary.proofs.inner.digit.power_of_two.Goals as goal
 
 pub returns : goal.returns

@@ -1,6 +1,5 @@
 -- `has_zero` meets its contract: no rest seen so far is 0. Assumes nothing.
-use Rattle.std.proofs.Common.{◌≡◌, ℕ, ◌-◌, ◌<◌, false, eqb, get_or, sym, arith, rules, below_more, eq-eqb, ne_eqb}
-use Rattle.algebra.proofs.Search.{some_one, some_none}
+use Rattle.std.proofs.Common.{◌≡◌, ℕ, ◌-◌, ◌<◌, false, eqb, get_or}
 use Rattle.binary.specs.Block.{block}
 use Rattle.binary.proofs.inner.division.has_zero.Given as goal
 

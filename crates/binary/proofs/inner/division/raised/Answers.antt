@@ -1,7 +1,7 @@
 -- `raised` meets its contract: entry by entry. Assumes nothing.
-use Rattle.std.proofs.Common.{◌-◌, get_or, refl, arith, rules}
-use Rattle.algebra.proofs.Filled.{Filled, filled_none, filled_change}
-use Rattle.binary.specs.Block.{block, raise}
+use Rattle.std.proofs.Common.{refl, arith}
+use Rattle.algebra.proofs.Filled.{filled_none, filled_change}
+use Rattle.binary.specs.Block.{raise}
 use Rattle.binary.proofs.Block.{entries_filled}
 use Rattle.binary.proofs.inner.division.raised.Goals as goal
 

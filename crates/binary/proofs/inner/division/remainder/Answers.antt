@@ -1,6 +1,6 @@
 -- `remainder` meets its contract: after each turn the rest is a number with a's remainder, one place higher. Assumes nothing.
-use Rattle.std.proofs.Common.{◌-◌, ◌≤◌, arith, rules}
-use Rattle.binary.proofs.Aligned.{Aligned, divisor_degree, aligned_start, aligned_turn, aligned_end}
+use Rattle.std.proofs.Common.{arith}
+use Rattle.binary.proofs.Aligned.{divisor_degree, aligned_start, aligned_turn, aligned_end}
 use Rattle.binary.proofs.inner.division.remainder.Goals as goal
 
 pub degree-k-requires : goal.degree-k-requires

@@ -1,6 +1,6 @@
 -- `some_divides` meets its contract: each of the divisions goes on as `remainder` does. Assumes nothing.
-use Rattle.std.proofs.Common.{◌-◌, ◌≤◌, ◌∙◌, arith, rules}
-use Rattle.binary.proofs.Block.{Beside, beside_start, beside_turn, beside_end}
+use Rattle.std.proofs.Common.{◌∙◌, arith}
+use Rattle.binary.proofs.Block.{beside_start, beside_turn, beside_end}
 use Rattle.binary.proofs.inner.division.some_divides.Goals as goal
 
 pub raised-raised-requires : goal.raised-raised-requires

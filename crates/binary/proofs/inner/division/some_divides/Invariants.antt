@@ -1,6 +1,6 @@
 -- `some_divides` meets its contract: each of the divisions goes on as `remainder` does. Assumes nothing.
-use Rattle.std.proofs.Common.{◌-◌, ◌≤◌, ◌∙◌, arith, rules}
-use Rattle.binary.proofs.Block.{Beside, beside_start, beside_turn, beside_end}
+use Rattle.std.proofs.Common.{◌-◌, ◌≤◌}
+use Rattle.binary.proofs.Block.{Beside}
 use Rattle.binary.proofs.inner.division.some_divides.Given as goal
 
 abbrev pub invariant-loop-t : goal.invariant-loop-t

@@ -1,7 +1,7 @@
 -- `turned_each` meets its contract: entry by entry. Assumes nothing.
-use Rattle.std.proofs.Common.{◌-◌, get_or, arith, rules}
-use Rattle.algebra.proofs.Filled.{Filled, filled_none, filled_change}
-use Rattle.binary.specs.Block.{block, turn}
+use Rattle.std.proofs.Common.{get_or, arith}
+use Rattle.algebra.proofs.Filled.{filled_none, filled_change}
+use Rattle.binary.specs.Block.{turn}
 use Rattle.binary.proofs.Block.{entries_filled}
 use Rattle.binary.proofs.inner.division.turned_each.Goals as goal
 

@@ -1,5 +1,5 @@
 -- `factor_free` meets its contract: no divisor tried so far divides p. Assumes nothing.
-use Rattle.std.proofs.Common.{◌≡◌, ℕ, suc, ◌+◌, ◌-◌, ◌/◌, ◌%◌, ◌^◌, ◌<◌, ◌≤◌, min, true, false, ◌≢◌, List, get_or, sym, ap, ◌∙◌, add-one, arith, pow_mono, eqb-true}
+use Rattle.std.proofs.Common.{◌≡◌, ℕ, suc, ◌+◌, ◌-◌, ◌/◌, ◌^◌, ◌<◌, ◌≤◌, min, true, false, ◌≢◌, List, get_or, sym, ap, ◌∙◌, add-one, arith, pow_mono, eqb-true}
 use native.Mathlib.Decide.{dec_lt}
 use borrow.Author.Tests.{eqb-false}
 use Rattle.algebra.specs.Search.{some_below}

@@ -1,17 +1,8 @@
 -- `factor_free` meets its contract: no divisor tried so far divides p. Assumes nothing.
-use Rattle.std.proofs.Common.{◌≡◌, ℕ, suc, ◌+◌, ◌-◌, ◌/◌, ◌%◌, ◌^◌, ◌<◌, ◌≤◌, min, true, false, ◌≢◌, List, get_or, sym, ap, ◌∙◌, add-one, arith, pow_mono, eqb-true}
-use native.Mathlib.Decide.{dec_lt}
-use borrow.Author.Tests.{eqb-false}
-use Rattle.algebra.specs.Search.{some_below}
-use Rattle.algebra.proofs.Search.{some_yes, some_not}
-use Rattle.binary.specs.Xor.{Degree}
-use Rattle.binary.specs.Remainder.{remainder, divides}
+use Rattle.std.proofs.Common.{◌≡◌, ℕ, ◌+◌, ◌-◌, ◌/◌, ◌%◌, ◌^◌, ◌<◌, ◌≤◌, ◌≢◌, List, get_or}
+use Rattle.binary.specs.Remainder.{remainder}
 use Rattle.binary.specs.Product.{Modulus}
-use Rattle.binary.specs.Factor.{factor_free}
-use Rattle.binary.specs.Block.{block, entries, Divisions, Room}
-use Rattle.binary.proofs.Xor.{exp_lt}
-use Rattle.binary.proofs.Factor.{factor_free_lem, divisor_found}
-use Rattle.binary.proofs.Block.{entries_at, block-below}
+use Rattle.binary.specs.Block.{block}
 use Rattle.binary.proofs.inner.factor.factor_free.Given as goal
 
 -- the divisors from `first` on are next

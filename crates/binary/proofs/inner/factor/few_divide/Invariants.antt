@@ -1,8 +1,6 @@
 -- `few_divide` meets its contract: no divisor tried so far divides p. Assumes nothing.
-use Rattle.std.proofs.Common.{◌≡◌, ℕ, suc, ◌+◌, ◌-◌, ◌<◌, ◌≤◌, min, true, false, ◌≢◌, sym, ap, ◌∙◌, arith, below_more, eq-eqb, ne_eqb}
-use Rattle.algebra.specs.Search.{some_below}
-use Rattle.algebra.proofs.Search.{some_one, some_none}
-use Rattle.binary.specs.Remainder.{remainder, divides}
+use Rattle.std.proofs.Common.{◌≡◌, ℕ, ◌-◌, ◌<◌, ◌≤◌, false}
+use Rattle.binary.specs.Remainder.{divides}
 use Rattle.binary.specs.Block.{block}
 use Rattle.binary.proofs.inner.factor.few_divide.Given as goal
 

@@ -1,6 +1,6 @@
 -- `following` meets its contract: entry by entry. Assumes nothing.
-use Rattle.std.proofs.Common.{◌+◌, ◌-◌, get_or, refl, arith, rules}
-use Rattle.algebra.proofs.Filled.{Filled, filled_none, filled_change}
+use Rattle.std.proofs.Common.{◌+◌, refl, arith}
+use Rattle.algebra.proofs.Filled.{filled_none, filled_change}
 use Rattle.binary.specs.Block.{block}
 use Rattle.binary.proofs.Block.{entries_filled}
 use Rattle.binary.proofs.inner.factor.following.Goals as goal

@@ -1,5 +1,5 @@
 -- `doubled` meets its contract. Assumes nothing.
-use Rattle.std.proofs.Common.{◌≡◌, ℕ, suc, ◌-◌, ◌*◌, ◌/◌, ◌^◌, ◌<◌, ◌≤◌, sym, ap, ◌∙◌, div-lt_iff_lt-mul, arith, pow_pos, pow_mono, rules}
+use Rattle.std.proofs.Common.{◌≡◌, ℕ, suc, ◌-◌, ◌*◌, ◌/◌, ◌^◌, ◌<◌, ◌≤◌, sym, ap, ◌∙◌, div-lt_iff_lt-mul, arith, pow_pos, pow_mono}
 use Rattle.binary.specs.Xor.{◌⊕◌}
 use Rattle.binary.proofs.Xor.{is_xor}
 use Rattle.binary.proofs.Modulus.{times_x_is}

@@ -1,11 +1,7 @@
 -- `product` meets its contract: what is summed, and the product that is left, make the whole product. Assumes nothing.
-use Rattle.std.proofs.Common.{◌≡◌, ℕ, suc, ◌+◌, ◌-◌, ◌*◌, ◌/◌, ◌%◌, ◌^◌, ◌<◌, ◌≤◌, sym, ap, ◌∙◌, arith, rules}
-use lib.Bits.{bit_xor}
-use Rattle.binary.specs.Xor.{◌⊕◌, Degree}
-use Rattle.binary.proofs.Xor.{is_xor, zero_xor, xor-zero, xor_assoc}
-use Rattle.binary.specs.Product.{product, times_x}
-use Rattle.binary.proofs.Product.{product-zero}
-use Rattle.binary.proofs.Modulus.{times_x_lt, product-digit}
+use Rattle.std.proofs.Common.{◌≡◌, ℕ, ◌-◌, ◌^◌, ◌<◌, ◌≤◌}
+use Rattle.binary.specs.Xor.{◌⊕◌}
+use Rattle.binary.specs.Product.{product}
 use Rattle.binary.proofs.inner.modulo.product.Given as goal
 
 pub record Summed (m p w sum x y k : ℕ) : Type 0 where

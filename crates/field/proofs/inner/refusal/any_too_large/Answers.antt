@@ -1,13 +1,9 @@
 -- `any_too_large` meets its contract: it looks at each coefficient until one is too large. Assumes nothing.
-use mathlib.Core.Path.{◌≡◌, sym, ◌∙◌}
-use mathlib.Core.Bool.{false}
-use Prim.Native.Nat.{ℕ, ◌-◌, ◌<◌}
+use mathlib.Core.Path.{sym, ◌∙◌}
 use native.Mathlib.Omega.{arith}
 use borrow.Author.Count.{below_more}
-use borrow.Author.Rules.{rules}
-use lib.ListN.{get_or}
 use Rattle.algebra.proofs.Search.{some_one, some_none}
-use Rattle.field.specs.Refusal.{too_large, any_too_large}
+use Rattle.field.specs.Refusal.{any_too_large}
 use Rattle.field.proofs.inner.refusal.any_too_large.Goals as goal
 
 pub loop-i-init : goal.loop-i-init

@@ -1,7 +1,6 @@
 -- `of_element` meets its contract. Assumes nothing.
 use mathlib.Core.Path.{sym, ◌∙◌}
 use mathlib.Core.List.{[], ◌∷◌}
-use borrow.Author.Rules.{rules}
 use Rattle.field.specs.Refusal.{◌⇒◌, too_large, polynomial_tests}
 use Rattle.field.proofs.Refusal.{then_kept, then_applies, then_passes, accepted}
 use Rattle.field.proofs.inner.refusal.of_element.Goals as goal

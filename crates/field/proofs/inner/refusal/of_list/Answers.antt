@@ -2,7 +2,6 @@
 use mathlib.Core.Path.{sym, ap₂, ◌∙◌}
 use mathlib.Core.Bool.{Bool}
 use mathlib.Core.List.{[], ◌∷◌}
-use borrow.Author.Rules.{rules}
 use Rattle.field.specs.Refusal.{◌⇒◌, refusal}
 use Rattle.field.proofs.inner.refusal.of_list.Goals as goal
 

@@ -2,7 +2,6 @@
 use mathlib.Core.Path.{◌≡◌, ◌∙◌, ap}
 use Prim.Native.Nat.{ℕ, ◌^◌}
 use lib.Dec.{leb}
-use borrow.Author.Rules.{rules}
 use Rattle.binary.specs.Factor.{degree_of}
 use Rattle.field.specs.Refusal.{too_large}
 use Rattle.field.proofs.inner.refusal.too_large.Goals as goal

@@ -6,7 +6,6 @@ use lib.Signed.{lt_z}
 use mir.Syntax.{w32}
 use mir.Val.{SFits}
 use mir.Facts.{to_z-of_z}
-use borrow.Author.Rules.{rules}
 use borrow.Author.Tests.{eq-eqb, ne_eqb}
 use Rattle.field.proofs.inner.refusal.zero_to_negative.Goals as goal
 

@@ -4,7 +4,6 @@ use native.Mathlib.Omega.{arith}
 use native.Mathlib.Nat.{pos_of_ne-zero}
 use Rattle.firmware.specs.Lent.{room_number}
 use Rattle.firmware.proofs.Room.{fits_long, fits_short, first_set}
-use borrow.Author.Rules.{rules}
 use Rattle.firmware.proofs.inner.lent.put.Goals as goal
 
 pub returns-then-list-eq0 : goal.returns-then-list-eq0

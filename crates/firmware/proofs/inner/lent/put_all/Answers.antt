@@ -1,8 +1,6 @@
 -- `put_all` meets its contract: after i turns the first i values stand in their places. Assumes nothing.
-use Prim.Native.Nat.{◌-◌}
 use native.Mathlib.Omega.{arith}
-use borrow.Author.Rules.{rules}
-use Rattle.firmware.proofs.Copying.{Copied, copied_start, copied_turn, copied_end}
+use Rattle.firmware.proofs.Copying.{copied_start, copied_turn, copied_end}
 use Rattle.firmware.proofs.inner.lent.put_all.Goals as goal
 
 pub loop-i-init : goal.loop-i-init

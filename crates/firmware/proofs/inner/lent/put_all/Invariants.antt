@@ -1,8 +1,6 @@
 -- `put_all` meets its contract: after i turns the first i values stand in their places. Assumes nothing.
 use Prim.Native.Nat.{◌-◌}
-use native.Mathlib.Omega.{arith}
-use borrow.Author.Rules.{rules}
-use Rattle.firmware.proofs.Copying.{Copied, copied_start, copied_turn, copied_end}
+use Rattle.firmware.proofs.Copying.{Copied}
 use Rattle.firmware.proofs.inner.lent.put_all.Given as goal
 
 abbrev pub invariant-loop-i : goal.invariant-loop-i

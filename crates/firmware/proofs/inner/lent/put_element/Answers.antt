@@ -2,7 +2,6 @@
 use mathlib.Core.Path.{sym, ap}
 use Rattle.field.specs.Answers.{of_element}
 use Rattle.firmware.proofs.Room.{one_down, one_same}
-use borrow.Author.Rules.{rules}
 use Rattle.firmware.proofs.inner.lent.put_element.Goals as goal
 
 pub returns-in-TurnedDown : goal.returns-in-TurnedDown

@@ -1,5 +1,4 @@
 -- `put_affine_answer` meets its contract. Assumes nothing.
-use borrow.Author.Rules.{rules}
 use Rattle.frames.proofs.Answered.{affine_refused, affine_none, affine_found, affine_few}
 use Rattle.frames.proofs.inner.answer.put_affine_answer.Goals as goal
 

@@ -1,10 +1,6 @@
 -- `put_directions` meets its contract. Assumes nothing.
-use mathlib.Core.Path.{◌≡◌, refl}
-use Prim.Native.Nat.{◌-◌, ◌≤◌}
+use mathlib.Core.Path.{refl}
 use native.Mathlib.Omega.{arith}
-use borrow.Author.Rules.{rules}
-use Rattle.frames.specs.Text.{up_to, put_bytes}
-use Rattle.frames.specs.Answer.{direction_bytes}
 use Rattle.frames.proofs.Writing.{put_none, put_more, put_all}
 use Rattle.frames.proofs.inner.answer.put_directions.Goals as goal
 

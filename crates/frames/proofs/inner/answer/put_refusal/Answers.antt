@@ -1,7 +1,6 @@
 -- `put_refusal` meets its contract. Assumes nothing.
 use mathlib.Core.Path.{refl}
 use mathlib.Core.List.{[], ◌∷◌}
-use borrow.Author.Rules.{rules}
 use Rattle.frames.proofs.Writing.{put_then}
 use Rattle.frames.proofs.inner.answer.put_refusal.Goals as goal
 

@@ -1,11 +1,8 @@
 -- `put_roots` meets its contract. Assumes nothing.
-use mathlib.Core.Path.{◌≡◌, refl}
+use mathlib.Core.Path.{◌≡◌}
 use Prim.Native.Nat.{◌-◌, ◌≤◌}
-use native.Mathlib.Omega.{arith}
-use borrow.Author.Rules.{rules}
 use Rattle.frames.specs.Text.{up_to, put_bytes}
 use Rattle.frames.specs.Answer.{root_bytes}
-use Rattle.frames.proofs.Writing.{put_none, put_more, put_all}
 use Rattle.frames.proofs.inner.answer.put_roots.Given as goal
 
 abbrev pub invariant-loop-i : goal.invariant-loop-i

@@ -1,5 +1,4 @@
 -- `put_roots_answer` meets its contract. Assumes nothing.
-use borrow.Author.Rules.{rules}
 use Rattle.frames.proofs.Answered.{roots_refused, roots_solved, roots_few}
 use Rattle.frames.proofs.inner.answer.put_roots_answer.Goals as goal
 

@@ -1,7 +1,6 @@
 -- `put_space` meets its contract. Assumes nothing.
 use mathlib.Core.Path.{refl}
 use mathlib.Core.List.{[], ◌∷◌}
-use borrow.Author.Rules.{rules}
 use Rattle.frames.specs.Text.{element_bytes}
 use Rattle.frames.proofs.Writing.{put_then}
 use Rattle.frames.proofs.inner.answer.put_space.Goals as goal

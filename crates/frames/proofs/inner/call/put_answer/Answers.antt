@@ -1,7 +1,6 @@
 -- `put_answer` meets its contract. Assumes nothing.
 use mathlib.Core.Path.{sym, ◌∙◌}
 use native.Mathlib.Omega.{arith}
-use borrow.Author.Rules.{rules}
 use lib.Seq.{length-take-le}
 use Rattle.frames.proofs.Coefficients.{is_well_formed, count_within}
 use Rattle.frames.proofs.Called.{line_refused, line_called}

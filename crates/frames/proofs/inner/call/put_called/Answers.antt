@@ -1,6 +1,5 @@
 -- `put_called` meets its contract. Assumes nothing.
 use mathlib.Core.Path.{sym, subst}
-use borrow.Author.Rules.{rules}
 use Rattle.affine.specs.Calls as affine
 use Rattle.roots.specs.Calls as roots
 use Rattle.frames.specs.Answer.{FewRoots, FewDirections}

@@ -1,5 +1,4 @@
 -- `capital` meets its contract. Assumes nothing.
-use borrow.Author.Rules.{rules}
 use Rattle.frames.proofs.Characters.{as_decimal, as_letter}
 use Rattle.frames.proofs.inner.character.capital.Goals as goal
 

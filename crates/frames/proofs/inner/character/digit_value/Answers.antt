@@ -1,7 +1,6 @@
 -- `digit_value` meets its contract. Assumes nothing.
 use mathlib.Core.Path.{sym, ◌∙◌}
 use native.Mathlib.Omega.{arith}
-use borrow.Author.Rules.{rules}
 use Rattle.frames.proofs.Characters.{decimal, upper, lower, no_digit, between_from, between_to}
 use Rattle.frames.proofs.inner.character.digit_value.Goals as goal
 

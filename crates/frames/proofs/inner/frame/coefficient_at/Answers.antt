@@ -1,7 +1,6 @@
 -- `coefficient_at` meets its contract. Assumes nothing.
 use mathlib.Core.Path.{ap₂}
 use Prim.Native.Nat.{ℕ, ◌+◌, ◌*◌}
-use borrow.Author.Rules.{rules}
 use Rattle.frames.proofs.inner.frame.coefficient_at.Goals as goal
 
 pub returns : goal.returns

@@ -1,14 +1,9 @@
 -- `coefficients_of` meets its contract: the coefficients fill the places from the first on. Assumes nothing.
-use mathlib.Core.Path.{◌∙◌}
 use Prim.Native.Nat.{◌-◌, ◌≤◌}
-use native.Mathlib.Omega.{arith}
-use borrow.Author.Rules.{rules}
 use lib.ListN.{get_or, replicate}
-use Rattle.algebra.proofs.Filled.{Filled, filled_none, filled_put}
-use Rattle.algebra.proofs.Places.{filled_padded}
+use Rattle.algebra.proofs.Filled.{Filled}
 use Rattle.frames.specs.Limits.{most_counted}
 use Rattle.frames.specs.Frame.{coefficients_of}
-use Rattle.frames.proofs.Coefficients.{coefficient_count, coefficient_is}
 use Rattle.frames.proofs.inner.frame.coefficients_of.Given as goal
 
 abbrev pub invariant-loop-i : goal.invariant-loop-i

@@ -1,15 +1,10 @@
 -- `another_character` meets its contract: it looks at each character until one is no digit. Assumes nothing.
-use mathlib.Core.Path.{◌≡◌, sym, ◌∙◌}
-use mathlib.Core.Bool.{false}
-use Prim.Native.Nat.{ℕ, ◌-◌, ◌<◌}
+use mathlib.Core.Path.{sym, ◌∙◌}
 use native.Mathlib.Omega.{arith}
 use borrow.Author.Count.{below_more}
-use borrow.Author.Rules.{rules}
 use borrow.Author.Tests.{eq-eqb, ne_eqb}
-use lib.Dec.{eqb}
-use lib.ListN.{get_or}
 use Rattle.algebra.proofs.Search.{some_one, some_none}
-use Rattle.frames.specs.Frame.{digit_value, another_character}
+use Rattle.frames.specs.Frame.{another_character}
 use Rattle.frames.proofs.inner.malformed.another_character.Goals as goal
 
 pub loop-i-init : goal.loop-i-init

@@ -1,5 +1,4 @@
 -- `another_kind` meets its contract. Assumes nothing.
-use borrow.Author.Rules.{rules}
 use Rattle.frames.proofs.Malformed.{first_kind, second_kind}
 use Rattle.frames.proofs.inner.malformed.another_kind.Goals as goal
 

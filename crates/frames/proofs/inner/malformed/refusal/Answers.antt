@@ -1,6 +1,5 @@
 -- `refusal` meets its contract. Assumes nothing.
 use mathlib.Core.Path.{sym, ◌∙◌}
-use borrow.Author.Rules.{rules}
 use Rattle.frames.proofs.Malformed.{too_long, odd_digits, few_bytes, other_character, other_kind, wrong_length, well_formed}
 use Rattle.frames.proofs.inner.malformed.refusal.Goals as goal
 

@@ -1,10 +1,8 @@
 -- `kept` meets its contract: each turn stores the next byte. Assumes nothing.
-use mathlib.Core.Path.{◌≡◌, refl, ap, ◌∙◌}
-use Prim.Native.Nat.{◌-◌, ◌≤◌}
+use mathlib.Core.Path.{refl, ap, ◌∙◌}
 use native.Mathlib.Omega.{arith}
-use borrow.Author.Rules.{rules}
 use lib.ListN.{length, take}
-use lib.Seq.{sets, length-sets}
+use lib.Seq.{length-sets}
 use Rattle.frames.proofs.Keeping.{kept_turn, kept_all}
 use Rattle.frames.proofs.inner.stream.kept.Goals as goal
 

@@ -1,11 +1,8 @@
 -- `kept` meets its contract: each turn stores the next byte. Assumes nothing.
-use mathlib.Core.Path.{◌≡◌, refl, ap, ◌∙◌}
+use mathlib.Core.Path.{◌≡◌}
 use Prim.Native.Nat.{◌-◌, ◌≤◌}
-use native.Mathlib.Omega.{arith}
-use borrow.Author.Rules.{rules}
-use lib.ListN.{length, take}
-use lib.Seq.{sets, length-sets}
-use Rattle.frames.proofs.Keeping.{kept_turn, kept_all}
+use lib.ListN.{take}
+use lib.Seq.{sets}
 use Rattle.frames.proofs.inner.stream.kept.Given as goal
 
 abbrev pub invariant-loop-i : goal.invariant-loop-i

@@ -1,6 +1,5 @@
 -- `lengthened` meets its contract. Assumes nothing.
 use native.Mathlib.Omega.{arith}
-use borrow.Author.Rules.{rules}
 use Rattle.frames.proofs.inner.stream.lengthened.Goals as goal
 
 pub returns-then-n-gt-MOST_DIGITS : goal.returns-then-n-gt-MOST_DIGITS

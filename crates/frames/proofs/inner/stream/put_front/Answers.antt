@@ -1,6 +1,5 @@
 -- `put_front` meets its contract. Assumes nothing.
 use mathlib.Core.Path.{sym}
-use borrow.Author.Rules.{rules}
 use lib.Seq.{length-take-le}
 use Rattle.frames.proofs.inner.stream.put_front.Goals as goal
 

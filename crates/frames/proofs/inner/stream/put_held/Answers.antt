@@ -1,7 +1,6 @@
 -- `put_held` meets its contract. Assumes nothing.
 use mathlib.Core.Path.{sym, ap}
 use native.Mathlib.Omega.{arith}
-use borrow.Author.Rules.{rules}
 use Rattle.frames.specs.Answer.{answer_bytes}
 use Rattle.frames.proofs.Answered.{same_bytes}
 use Rattle.frames.proofs.Held.{held_front, held-length, long_answer}

@@ -2,7 +2,6 @@
 use mathlib.Core.Path.{ap}
 use Prim.Native.Nat.{ℕ, ◌*◌}
 use native.Mathlib.Omega.{arith}
-use borrow.Author.Rules.{rules}
 use Rattle.frames.specs.Answer.{answer_bytes, answer_text}
 use Rattle.frames.specs.Stream.{line_feed, held, answer_line}
 use Rattle.frames.proofs.Writing.{put_after}

@@ -1,9 +1,7 @@
 -- `until_feed` meets its contract. Assumes nothing.
 use Prim.Native.Nat.{◌-◌, ◌≤◌}
-use native.Mathlib.Omega.{arith}
-use borrow.Author.Rules.{rules}
 use lib.ListN.{length}
-use Rattle.frames.proofs.Feeds.{FeedFrom, feed_turn, feed_found, feed_end}
+use Rattle.frames.proofs.Feeds.{FeedFrom}
 use Rattle.frames.proofs.inner.stream.until_feed.Given as goal
 
 abbrev pub invariant-loop-i : goal.invariant-loop-i

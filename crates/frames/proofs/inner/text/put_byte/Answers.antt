@@ -1,5 +1,4 @@
 -- `put_byte` meets its contract. Assumes nothing.
-use borrow.Author.Rules.{rules}
 use Rattle.frames.proofs.Writing.{put_digits}
 use Rattle.frames.proofs.inner.text.put_byte.Goals as goal
 

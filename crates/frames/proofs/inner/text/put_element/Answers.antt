@@ -2,7 +2,6 @@
 use mathlib.Core.Path.{refl}
 use mathlib.Core.List.{[], ◌∷◌}
 use Prim.Native.Nat.{◌/◌, ◌%◌}
-use borrow.Author.Rules.{rules}
 use Rattle.frames.proofs.Writing.{put_then}
 use Rattle.frames.proofs.inner.text.put_element.Goals as goal
 

@@ -2,7 +2,6 @@
 use mathlib.Core.Path.{sym, ap, ◌∙◌}
 use Prim.Native.Nat.{ℕ, ◌*◌}
 use lib.Bits.{bit_xor}
-use borrow.Author.Rules.{rules}
 use Rattle.binary.specs.Bit.{bit}
 use Rattle.binary.proofs.Xor.{is_xor}
 use Rattle.binary.proofs.Bit.{bit_lt}

@@ -1,13 +1,8 @@
 -- `cleared` meets its contract: the loop adds the pivot row to every row that holds the column, itself too, and then it is put back.
 -- Assumes nothing.
-use Prim.Native.Nat.{◌-◌}
 use native.Mathlib.Omega.{arith}
-use lib.ListN.{get_or}
-use borrow.Author.Rules.{rules}
-use Rattle.algebra.proofs.Filled.{Filled, filled_none}
-use Rattle.linear.specs.Limits.{places}
-use Rattle.linear.specs.Elimination.{clear}
-use Rattle.linear.proofs.Clear.{plus, clear-turn, clear_end}
+use Rattle.algebra.proofs.Filled.{filled_none}
+use Rattle.linear.proofs.Clear.{clear-turn, clear_end}
 use Rattle.linear.proofs.inner.elimination.cleared.Goals as goal
 
 pub loop-i-init : goal.loop-i-init

@@ -1,13 +1,10 @@
 -- `cleared` meets its contract: the loop adds the pivot row to every row that holds the column, itself too, and then it is put back.
 -- Assumes nothing.
 use Prim.Native.Nat.{◌-◌}
-use native.Mathlib.Omega.{arith}
 use lib.ListN.{get_or}
-use borrow.Author.Rules.{rules}
-use Rattle.algebra.proofs.Filled.{Filled, filled_none}
+use Rattle.algebra.proofs.Filled.{Filled}
 use Rattle.linear.specs.Limits.{places}
-use Rattle.linear.specs.Elimination.{clear}
-use Rattle.linear.proofs.Clear.{plus, clear-turn, clear_end}
+use Rattle.linear.proofs.Clear.{plus}
 use Rattle.linear.proofs.inner.elimination.cleared.Given as goal
 
 abbrev pub invariant-loop-i : goal.invariant-loop-i

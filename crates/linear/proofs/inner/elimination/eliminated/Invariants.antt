@@ -1,13 +1,8 @@
 -- `eliminated` meets its contract: the search yields the definition's pivot, and each column is the definition's step. Assumes nothing.
-use mathlib.Core.Path.{◌≡◌, sym, ◌∙◌}
-use mathlib.Core.Logic.{⊎_elim}
 use Prim.Native.Nat.{◌-◌}
-use native.Mathlib.Omega.{arith}
-use borrow.Author.Rules.{rules}
-use Rattle.algebra.specs.Search.{first}
-use Rattle.algebra.proofs.Seeking.{Seeking, seeking_start, seeking_skip, seeking_here, seeking_end}
+use Rattle.algebra.proofs.Seeking.{Seeking}
 use Rattle.linear.specs.Limits.{places}
-use Rattle.linear.proofs.Columns.{may_pivot, Columns, columns_start, columns_some, columns_none, columns_end}
+use Rattle.linear.proofs.Columns.{may_pivot, Columns}
 use Rattle.linear.proofs.inner.elimination.eliminated.Given as goal
 
 abbrev pub invariant-loop-i : goal.invariant-loop-i

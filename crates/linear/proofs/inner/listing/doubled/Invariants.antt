@@ -1,8 +1,6 @@
 -- `doubled` meets its contract. Assumes nothing.
 use Prim.Native.Nat.{◌-◌}
-use native.Mathlib.Omega.{arith}
-use borrow.Author.Rules.{rules}
-use Rattle.linear.proofs.Doubling.{Doubled, doubled_start, doubled_turn, doubled_end}
+use Rattle.linear.proofs.Doubling.{Doubled}
 use Rattle.linear.proofs.inner.listing.doubled.Given as goal
 
 abbrev pub invariant-loop-i : goal.invariant-loop-i

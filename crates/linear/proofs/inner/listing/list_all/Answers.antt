@@ -1,12 +1,12 @@
 -- `list_all` meets its contract. Assumes nothing.
 use mathlib.Core.Path.{◌∙◌}
-use Prim.Native.Nat.{◌-◌, ◌<◌}
+use Prim.Native.Nat.{◌<◌}
 use native.Mathlib.Omega.{arith}
 use lib.ListN.{length-set}
 use lib.Pow.{pow_pos, pow_mono}
 use borrow.Author.Rules.{rules}
 use Rattle.linear.specs.Limits.{places}
-use Rattle.linear.proofs.Doubling.{Listing, listing_start, listing_turn, listing_room, listing_end}
+use Rattle.linear.proofs.Doubling.{listing_start, listing_turn, listing_room, listing_end}
 use Rattle.linear.proofs.inner.listing.list_all.Goals as goal
 
 pub bounds-list-0 : goal.bounds-list-0

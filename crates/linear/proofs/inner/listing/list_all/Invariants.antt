@@ -1,12 +1,6 @@
 -- `list_all` meets its contract. Assumes nothing.
-use mathlib.Core.Path.{◌∙◌}
-use Prim.Native.Nat.{◌-◌, ◌<◌}
-use native.Mathlib.Omega.{arith}
-use lib.ListN.{length-set}
-use lib.Pow.{pow_pos, pow_mono}
-use borrow.Author.Rules.{rules}
-use Rattle.linear.specs.Limits.{places}
-use Rattle.linear.proofs.Doubling.{Listing, listing_start, listing_turn, listing_room, listing_end}
+use Prim.Native.Nat.{◌-◌}
+use Rattle.linear.proofs.Doubling.{Listing}
 use Rattle.linear.proofs.inner.listing.list_all.Given as goal
 
 abbrev pub invariant-loop-j : goal.invariant-loop-j

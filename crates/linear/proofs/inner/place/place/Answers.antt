@@ -1,12 +1,6 @@
 -- `place` meets its contract: what is added, and what the rest of n still chooses, make the whole. Assumes nothing.
-use mathlib.Core.Path.{◌≡◌, refl}
-use Prim.Native.Nat.{◌-◌, ◌≤◌}
+use mathlib.Core.Path.{refl}
 use native.Mathlib.Omega.{arith}
-use borrow.Author.Rules.{rules}
-use lib.ListN.{drop}
-use Rattle.binary.specs.Xor.{◌⊕◌}
-use Rattle.linear.specs.Limits.{places}
-use Rattle.linear.specs.Directions.{choose}
 use Rattle.linear.proofs.Choose.{choose_next, choose_done}
 use Rattle.linear.proofs.inner.place.place.Goals as goal
 

@@ -1,12 +1,8 @@
 -- `column` meets its contract. Assumes nothing.
-use mathlib.Core.Path.{◌≡◌, refl, ap, ap₂, ◌∙◌}
-use Prim.Native.Nat.{◌-◌, ◌*◌, ◌≤◌}
-use native.Mathlib.Omega.{arith}
-use borrow.Author.Rules.{rules}
-use Rattle.binary.proofs.Bit.{bit_lt}
+use mathlib.Core.Path.{◌≡◌}
+use Prim.Native.Nat.{◌-◌, ◌≤◌}
 use Rattle.linear.specs.Limits.{places}
 use Rattle.linear.specs.Reading.{column}
-use Rattle.linear.proofs.Reading.{column_more}
 use Rattle.linear.proofs.inner.solution.column.Given as goal
 
 abbrev pub invariant-loop-i : goal.invariant-loop-i

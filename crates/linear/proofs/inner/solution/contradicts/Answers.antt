@@ -1,12 +1,9 @@
 -- `contradicts` meets its contract: it looks at each row until one passes the test. Assumes nothing.
-use mathlib.Core.Path.{◌≡◌, sym, ◌∙◌}
-use mathlib.Core.Bool.{false}
-use Prim.Native.Nat.{ℕ, ◌-◌, ◌<◌, ◌≤◌}
+use mathlib.Core.Path.{sym, ◌∙◌}
 use native.Mathlib.Omega.{arith}
 use borrow.Author.Count.{below_more}
 use borrow.Author.Rules.{rules}
 use Rattle.linear.specs.Limits.{places}
-use Rattle.linear.specs.Elimination.{row, mark, candidate}
 use Rattle.linear.proofs.Reading.{broken_here, broken_nowhere}
 use Rattle.linear.proofs.inner.solution.contradicts.Goals as goal
 
@@ -19,8 +16,7 @@ returns-then-may_pivot c =
     broken_here _ places _ (search rules) l.i (omega arith) (sym c.may_pivot.ensures ∙ c.if-may_pivot.true)
 
 pub loop-i-preserved : goal.loop-i-preserved
-loop-i-preserved c =
-    (
+loop-i-preserved c = (
   omega arith,
   below_more _ c.loop-i.i c.loop-i.invariant.1
       (sym c.may_pivot.ensures ∙ c.if-may_pivot.false),

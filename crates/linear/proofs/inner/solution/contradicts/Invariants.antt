@@ -1,13 +1,9 @@
 -- `contradicts` meets its contract: it looks at each row until one passes the test. Assumes nothing.
-use mathlib.Core.Path.{◌≡◌, sym, ◌∙◌}
+use mathlib.Core.Path.{◌≡◌}
 use mathlib.Core.Bool.{false}
 use Prim.Native.Nat.{ℕ, ◌-◌, ◌<◌, ◌≤◌}
-use native.Mathlib.Omega.{arith}
-use borrow.Author.Count.{below_more}
-use borrow.Author.Rules.{rules}
 use Rattle.linear.specs.Limits.{places}
 use Rattle.linear.specs.Elimination.{row, mark, candidate}
-use Rattle.linear.proofs.Reading.{broken_here, broken_nowhere}
 use Rattle.linear.proofs.inner.solution.contradicts.Given as goal
 
 abbrev pub invariant-loop-i : goal.invariant-loop-i

@@ -1,8 +1,6 @@
 -- `pivot_columns` meets its contract. Assumes nothing.
 use mathlib.Core.Path.{◌≡◌, refl}
-use Prim.Native.Nat.{◌-◌, ◌≤◌}
 use native.Mathlib.Omega.{arith}
-use borrow.Author.Rules.{rules}
 use Rattle.linear.specs.Limits.{places}
 use Rattle.linear.specs.Reading.{pivot_columns}
 use Rattle.linear.proofs.Reading.{pivot_columns_more}

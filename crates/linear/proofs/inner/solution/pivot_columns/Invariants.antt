@@ -1,11 +1,8 @@
 -- `pivot_columns` meets its contract. Assumes nothing.
-use mathlib.Core.Path.{◌≡◌, refl}
+use mathlib.Core.Path.{◌≡◌}
 use Prim.Native.Nat.{◌-◌, ◌≤◌}
-use native.Mathlib.Omega.{arith}
-use borrow.Author.Rules.{rules}
 use Rattle.linear.specs.Limits.{places}
 use Rattle.linear.specs.Reading.{pivot_columns}
-use Rattle.linear.proofs.Reading.{pivot_columns_more}
 use Rattle.linear.proofs.inner.solution.pivot_columns.Given as goal
 
 abbrev pub invariant-loop-i : goal.invariant-loop-i

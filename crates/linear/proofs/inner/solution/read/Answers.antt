@@ -1,6 +1,5 @@
 -- `read` meets its contract: the directions gathered are the definition's. Assumes nothing.
 use mathlib.Core.Path.{◌≡◌, sym, ap, ◌∙◌}
-use Prim.Native.Nat.{◌-◌}
 use native.Mathlib.Omega.{arith}
 use borrow.Author.Rules.{rules}
 use Rattle.binary.specs.Bit.{bit}
@@ -8,7 +7,7 @@ use Rattle.linear.specs.Limits.{places}
 use Rattle.linear.specs.Reading.{pivot_columns}
 use Rattle.linear.proofs.Reading.{free_direction_is}
 use Rattle.linear.proofs.Taken.{taken-bit, free_bit}
-use Rattle.linear.proofs.Gathered.{Gathered, gathered_start, gathered_skip, gathered_push, gathered_solution}
+use Rattle.linear.proofs.Gathered.{gathered_start, gathered_skip, gathered_push, gathered_solution}
 use Rattle.linear.proofs.inner.solution.read.Goals as goal
 use Rattle.linear.proofs.inner.solution.read.Goals.{then-bit-eq0, else-bit-eq0}
 
@@ -21,15 +20,15 @@ loop-t-preserved c =
     let a = c.args in
     let b : c.bit.result ≡ bit l.t (pivot_columns a.s places) = c.bit.ensures ∙ ap (bit l.t) c.pivot_columns-pivots.ensures in
     elim c.if-bit-eq0.branch [
-      then-bit-eq0 w ↦
-        rw (w.directions-is, w.count-is)
-        (gathered_push a.s a.m l.t l.directions l.count (omega arith) l.invariant _
-        (free_bit places a.s (search rules) l.t (sym b ∙ w.if-bit-eq0.true)) (omega arith)
-        (free_direction_is places a.s l.t _ _ (search rules) w.power_of_two.ensures w.column.ensures))
+      | then-bit-eq0 w ↦
+          rw (w.directions-is, w.count-is)
+          (gathered_push a.s a.m l.t l.directions l.count (omega arith) l.invariant _
+          (free_bit places a.s (search rules) l.t (sym b ∙ w.if-bit-eq0.true)) (omega arith)
+          (free_direction_is places a.s l.t _ _ (search rules) w.power_of_two.ensures w.column.ensures))
       | else-bit-eq0 w ↦
-        rw (w.directions-is, w.count-is)
-        (gathered_skip a.s a.m l.t l.directions l.count (omega arith) l.invariant
-        (taken-bit places a.s (search rules) l.t (λ z. w.if-bit-eq0.false (b ∙ z))))
+          rw (w.directions-is, w.count-is)
+          (gathered_skip a.s a.m l.t l.directions l.count (omega arith) l.invariant
+          (taken-bit places a.s (search rules) l.t (λ z. w.if-bit-eq0.false (b ∙ z))))
     ]
 
 pub returns : goal.returns

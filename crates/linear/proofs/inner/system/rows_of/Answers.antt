@@ -1,11 +1,8 @@
 -- `rows_of` meets its contract: the columns are joined one after another. Assumes nothing.
 use mathlib.Core.Path.{◌≡◌, sym, ap, ◌∙◌}
-use Prim.Native.Nat.{ℕ, ◌-◌, ◌≤◌}
 use native.Mathlib.Omega.{arith}
-use borrow.Author.Rules.{rules}
-use lib.ListN.{get_or}
 use Rattle.linear.specs.Matrix.{with_column}
-use Rattle.linear.proofs.Matrix.{columns_done, columns_none, columns_more, columns_all}
+use Rattle.linear.proofs.Matrix.{columns_none, columns_more, columns_all}
 use Rattle.linear.proofs.inner.system.rows_of.Goals as goal
 
 pub loop-j-init : goal.loop-j-init

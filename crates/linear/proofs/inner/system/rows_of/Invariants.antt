@@ -1,11 +1,8 @@
 -- `rows_of` meets its contract: the columns are joined one after another. Assumes nothing.
-use mathlib.Core.Path.{◌≡◌, sym, ap, ◌∙◌}
+use mathlib.Core.Path.{◌≡◌}
 use Prim.Native.Nat.{ℕ, ◌-◌, ◌≤◌}
-use native.Mathlib.Omega.{arith}
-use borrow.Author.Rules.{rules}
 use lib.ListN.{get_or}
-use Rattle.linear.specs.Matrix.{with_column}
-use Rattle.linear.proofs.Matrix.{columns_done, columns_none, columns_more, columns_all}
+use Rattle.linear.proofs.Matrix.{columns_done}
 use Rattle.linear.proofs.inner.system.rows_of.Given as goal
 
 abbrev pub invariant-loop-j : goal.invariant-loop-j

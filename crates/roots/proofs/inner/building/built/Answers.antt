@@ -2,7 +2,7 @@
 use native.Mathlib.Omega.{arith}
 use borrow.Author.Rules.{rules}
 use Rattle.galois.proofs.Polynomial.{coeff_at}
-use Rattle.roots.proofs.FromRoots.{Built, building_start, building_small, building_next, building_end}
+use Rattle.roots.proofs.FromRoots.{building_start, building_small, building_next, building_end}
 use Rattle.roots.proofs.inner.building.built.Goals as goal
 
 pub loop-i-init : goal.loop-i-init

@@ -1,8 +1,5 @@
 -- `built` meets its contract: the roots from place i on are in. Assumes nothing.
-use native.Mathlib.Omega.{arith}
-use borrow.Author.Rules.{rules}
-use Rattle.galois.proofs.Polynomial.{coeff_at}
-use Rattle.roots.proofs.FromRoots.{Built, building_start, building_small, building_next, building_end}
+use Rattle.roots.proofs.FromRoots.{Built}
 use Rattle.roots.proofs.inner.building.built.Given as goal
 
 abbrev pub invariant-loop-i : goal.invariant-loop-i

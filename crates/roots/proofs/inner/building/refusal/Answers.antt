@@ -1,6 +1,5 @@
 -- `refusal` meets its contract. Assumes nothing.
 use mathlib.Core.Path.{sym, ◌∙◌}
-use borrow.Author.Rules.{rules}
 use lib.Dec.{ltb}
 use lib.ListN.{length}
 use Rattle.field.specs.Refusal.{polynomial_tests, list_tests}

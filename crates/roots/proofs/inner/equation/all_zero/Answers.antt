@@ -1,13 +1,8 @@
 -- `all_zero` meets its contract: it looks at each coefficient until one is not 0. Assumes nothing.
-use mathlib.Core.Path.{◌≡◌, sym}
-use mathlib.Core.Bool.{true}
-use Prim.Native.Nat.{ℕ, ◌-◌, ◌<◌}
+use mathlib.Core.Path.{sym}
 use native.Mathlib.Omega.{arith}
 use borrow.Author.Count.{below_more}
 use borrow.Author.Tests.{eq-eqb, ne_eqb}
-use borrow.Author.Rules.{rules}
-use lib.Dec.{eqb}
-use lib.ListN.{get_or}
 use Rattle.algebra.proofs.Search.{every_below_lem, not_every_below}
 use Rattle.roots.specs.Calls.{all_zero}
 use Rattle.roots.proofs.inner.equation.all_zero.Goals as goal

@@ -1,11 +1,7 @@
 -- `five` meets its contract: the coefficients fill the places from the first on. Assumes nothing.
-use mathlib.Core.Path.{refl}
 use Prim.Native.Nat.{◌-◌, ◌≤◌}
-use native.Mathlib.Omega.{arith}
-use borrow.Author.Rules.{rules}
 use lib.ListN.{length, get_or, replicate}
-use Rattle.algebra.proofs.Filled.{Filled, filled_none, filled_put}
-use Rattle.algebra.proofs.Places.{filled_padded}
+use Rattle.algebra.proofs.Filled.{Filled}
 use Rattle.roots.specs.Limits.{most_coefficients}
 use Rattle.roots.proofs.inner.equation.five.Given as goal
 

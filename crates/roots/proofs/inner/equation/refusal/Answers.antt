@@ -1,7 +1,6 @@
 -- `refusal` meets its contract. Assumes nothing.
 use mathlib.Core.Path.{sym, ◌∙◌}
 use mathlib.Core.List.{[], ◌∷◌, ◌++◌}
-use borrow.Author.Rules.{rules}
 use lib.ListN.{length}
 use Rattle.field.specs.Refusal.{◌⇒◌, polynomial_tests, wrong_count, list_tests}
 use Rattle.field.proofs.Refusal.{then_kept, accepted}

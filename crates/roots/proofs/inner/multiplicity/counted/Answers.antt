@@ -1,13 +1,7 @@
 -- `counted` meets its contract: the multiplicities fill the places from the first on. Assumes nothing.
-use mathlib.Core.List.{map}
-use Prim.Native.Nat.{◌-◌, ◌≤◌}
 use native.Mathlib.Omega.{arith}
 use borrow.Author.Rules.{rules}
-use lib.ListN.{get_or, replicate}
-use Rattle.algebra.proofs.Filled.{Filled, filled_none, filled_put}
-use Rattle.galois.specs.Roots.{roots_of}
-use Rattle.galois.specs.Multiplicity.{multiplicity}
-use Rattle.roots.specs.Limits.{most_roots}
+use Rattle.algebra.proofs.Filled.{filled_none, filled_put}
 use Rattle.roots.proofs.Multiples.{count_few, count_ready, count_is, counted_all}
 use Rattle.roots.proofs.inner.multiplicity.counted.Goals as goal
 

@@ -1,9 +1,8 @@
 -- `divisions` meets its contract: k divisions are done, and those still to come make up the multiplicity. Assumes nothing.
 use mathlib.Core.Path.{◌≡◌, sym, ◌∙◌}
-use Prim.Native.Nat.{◌-◌}
 use borrow.Author.Rules.{rules}
 use Rattle.roots.specs.Limits.{most_coefficients}
-use Rattle.roots.proofs.Counting.{Counting, counting_start, counting_stop, counting_next, counting_end}
+use Rattle.roots.proofs.Counting.{counting_start, counting_stop, counting_next, counting_end}
 use Rattle.roots.proofs.inner.multiplicity.divisions.Goals as goal
 
 pub loop-k-init : goal.loop-k-init

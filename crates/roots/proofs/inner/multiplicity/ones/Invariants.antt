@@ -1,11 +1,7 @@
 -- `ones` meets its contract. Assumes nothing.
-use mathlib.Core.Path.{sym}
-use Prim.Native.Nat.{ℕ, ◌-◌, ◌≤◌}
-use native.Mathlib.Omega.{arith}
-use borrow.Author.Rules.{rules}
-use lib.ListN.{get_or, replicate, get_or-replicate, length-replicate}
-use Rattle.algebra.proofs.Filled.{Filled, filled_none, filled_put}
-use Rattle.algebra.proofs.Places.{filled_padded}
+use Prim.Native.Nat.{◌-◌, ◌≤◌}
+use lib.ListN.{get_or, replicate}
+use Rattle.algebra.proofs.Filled.{Filled}
 use Rattle.roots.specs.Limits.{most_roots}
 use Rattle.roots.proofs.inner.multiplicity.ones.Given as goal
 

@@ -1,7 +1,7 @@
 -- `divided` meets its contract: from place i on the values are those of the polynomial's tails. Assumes nothing.
 use native.Mathlib.Omega.{arith}
 use borrow.Author.Rules.{rules}
-use Rattle.roots.proofs.Division.{Dividing, dividing_start, dividing_next, dividing_end, dividing_lt}
+use Rattle.roots.proofs.Division.{dividing_start, dividing_next, dividing_end, dividing_lt}
 use Rattle.roots.proofs.inner.polynomial.divided.Goals as goal
 
 pub loop-i-init : goal.loop-i-init

@@ -1,7 +1,5 @@
 -- `divided` meets its contract: from place i on the values are those of the polynomial's tails. Assumes nothing.
-use native.Mathlib.Omega.{arith}
-use borrow.Author.Rules.{rules}
-use Rattle.roots.proofs.Division.{Dividing, dividing_start, dividing_next, dividing_end, dividing_lt}
+use Rattle.roots.proofs.Division.{Dividing}
 use Rattle.roots.proofs.inner.polynomial.divided.Given as goal
 
 abbrev pub invariant-loop-i : goal.invariant-loop-i

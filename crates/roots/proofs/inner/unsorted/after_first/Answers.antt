@@ -1,5 +1,4 @@
 -- `after_first` meets its contract. Assumes nothing.
-use borrow.Author.Rules.{rules}
 use Rattle.roots.proofs.Moving.{first_gone}
 use Rattle.roots.proofs.inner.unsorted.after_first.Goals as goal
 

@@ -1,9 +1,8 @@
 -- `moved_back` meets its contract: the first i numbers are moved, the others still as they were. Assumes nothing.
-use Prim.Native.Nat.{◌-◌, ◌≤◌}
 use native.Mathlib.Omega.{arith}
 use borrow.Author.Rules.{rules}
 use Rattle.algebra.proofs.Filled.{filled_none}
-use Rattle.roots.proofs.Moving.{Moved, inverse_ready, moved_next, moved_all}
+use Rattle.roots.proofs.Moving.{inverse_ready, moved_next, moved_all}
 use Rattle.roots.proofs.inner.unsorted.moved_back.Goals as goal
 
 pub loop-i-init : goal.loop-i-init

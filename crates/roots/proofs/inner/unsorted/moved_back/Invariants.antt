@@ -1,9 +1,6 @@
 -- `moved_back` meets its contract: the first i numbers are moved, the others still as they were. Assumes nothing.
 use Prim.Native.Nat.{◌-◌, ◌≤◌}
-use native.Mathlib.Omega.{arith}
-use borrow.Author.Rules.{rules}
-use Rattle.algebra.proofs.Filled.{filled_none}
-use Rattle.roots.proofs.Moving.{Moved, inverse_ready, moved_next, moved_all}
+use Rattle.roots.proofs.Moving.{Moved}
 use Rattle.roots.proofs.inner.unsorted.moved_back.Given as goal
 
 abbrev pub invariant-loop-i : goal.invariant-loop-i

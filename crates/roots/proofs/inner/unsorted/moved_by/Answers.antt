@@ -1,5 +1,4 @@
 -- `moved_by` meets its contract. Assumes nothing.
-use borrow.Author.Rules.{rules}
 use Rattle.roots.proofs.Moving.{four_moved}
 use Rattle.roots.proofs.inner.unsorted.moved_by.Goals as goal
 

@@ -1,5 +1,4 @@
 -- `of_cubic` meets its contract. Assumes nothing.
-use borrow.Author.Rules.{rules}
 use Rattle.roots.proofs.Cubic.{t_small, made_ready, made_first, all_roots_lem, kept_roots}
 use Rattle.roots.proofs.inner.unsorted.of_cubic.Goals as goal
 

@@ -1,6 +1,5 @@
 -- `of_linear` meets its contract. Assumes nothing.
 use mathlib.Core.Path.{refl}
-use borrow.Author.Rules.{rules}
 use Rattle.roots.proofs.Completing.{linear_roots}
 use Rattle.roots.proofs.inner.unsorted.of_linear.Goals as goal
 

@@ -1,7 +1,6 @@
 -- `solutions` meets its contract. Assumes nothing.
 use mathlib.Core.Path.{refl}
 use native.Mathlib.Omega.{arith}
-use borrow.Author.Rules.{rules}
 use Rattle.roots.proofs.Spaces.{space_fits_lem, solutions_few, solutions_are}
 use Rattle.roots.proofs.inner.unsorted.solutions.Goals as goal
 

@@ -1,6 +1,5 @@
 -- `space` meets its contract. Assumes nothing.
 use mathlib.Core.Path.{sym, ap, ◌∙◌, subst}
-use borrow.Author.Rules.{rules}
 use Rattle.binary.specs.Factor.{degree_of}
 use Rattle.affine.specs.Equation.{Ready, solution_of}
 use Rattle.roots.proofs.Folding.{folded_short, folded_long, folded_ready}

@@ -1,5 +1,4 @@
 -- `with_last` meets its contract. Assumes nothing.
-use borrow.Author.Rules.{rules}
 use Rattle.roots.proofs.Moving.{last_put}
 use Rattle.roots.proofs.inner.unsorted.with_last.Goals as goal
 

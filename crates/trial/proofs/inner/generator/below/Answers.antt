@@ -1,6 +1,5 @@
 -- `below` is safe, and its number is a remainder. Assumes nothing.
 use native.Mathlib.Nat.{mod-lt}
-use borrow.Author.Rules.{rules}
 use Rattle.trial.proofs.inner.generator.below.Goals as goal
 
 pub returns : goal.returns

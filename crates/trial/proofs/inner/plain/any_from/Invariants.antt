@@ -1,6 +1,5 @@
 -- `any_from` is safe: the place stays within the list. Assumes nothing.
 use Prim.Native.Nat.{◌≤◌, ◌-◌}
-use borrow.Author.Rules.{rules}
 use lib.ListN.{length}
 use Rattle.trial.proofs.inner.plain.any_from.Given as goal
 

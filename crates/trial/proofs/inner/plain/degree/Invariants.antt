@@ -1,6 +1,5 @@
 -- `degree` is safe: the bits that it tests are those from 16 down to 1. Assumes nothing.
 use Prim.Native.Nat.{◌≤◌, ◌-◌}
-use borrow.Author.Rules.{rules}
 use Rattle.trial.proofs.inner.plain.degree.Given as goal
 
 abbrev pub invariant-loop-k : goal.invariant-loop-k

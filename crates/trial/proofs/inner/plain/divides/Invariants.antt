@@ -1,6 +1,5 @@
 -- `divides` is safe: the shifts are those from 16 down to 0. Assumes nothing.
 use Prim.Native.Nat.{◌≤◌, ◌-◌}
-use borrow.Author.Rules.{rules}
 use Rattle.trial.proofs.inner.plain.divides.Given as goal
 
 abbrev pub invariant-loop-k : goal.invariant-loop-k

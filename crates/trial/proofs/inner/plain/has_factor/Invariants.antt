@@ -1,6 +1,5 @@
 -- `has_factor` ends: the divisors run up to 512. Assumes nothing.
 use Prim.Native.Nat.{◌≤◌, ◌-◌}
-use borrow.Author.Rules.{rules}
 use Rattle.trial.proofs.inner.plain.has_factor.Given as goal
 
 abbrev pub invariant-loop-d : goal.invariant-loop-d

@@ -1,5 +1,4 @@
 -- `product` ends: the bits that are left run out. Assumes nothing.
-use borrow.Author.Rules.{rules}
 use Rattle.trial.proofs.inner.plain.product.Given as goal
 
 abbrev pub invariant-loop-rest : goal.invariant-loop-rest

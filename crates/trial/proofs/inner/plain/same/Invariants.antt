@@ -1,6 +1,5 @@
 -- `same` is safe: the two lists have one length. Assumes nothing.
 use Prim.Native.Nat.{◌-◌}
-use borrow.Author.Rules.{rules}
 use Rattle.trial.proofs.inner.plain.same.Given as goal
 
 abbrev pub invariant-loop-i : goal.invariant-loop-i

@@ -2,7 +2,6 @@
 use Prim.Native.Nat.{◌≤◌, ◌-◌, ◌^◌}
 use native.Mathlib.Omega.{arith}
 use native.Mathlib.Nat.{one-le-pow, div-le_self, le-div_iff_mul-le}
-use borrow.Author.Rules.{rules}
 use lib.Pow.{pow_mono}
 use Rattle.trial.proofs.inner.plain.size.Goals as goal
 
