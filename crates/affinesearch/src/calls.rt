@@ -4,6 +4,7 @@ ghost use Rattle.std.specs.Prelude.{◌≤◌, length};
 use crate::draw::ROOM;
 use crate::tally::Tally;
 use crate::{compare, draw, own, search, tally};
+use std::io;
 use trial::inner::{generator, plain};
 
 // The length of the list of the roots found, and of the lent list: all elements, and eight entries to spare.
@@ -11,21 +12,22 @@ const ENTRIES: usize = 65544;
 
 // A call with the first `count` coefficients of `all`.
 fn searched(
+    rt: &HostRuntime,
     t: Tally,
     p: u32,
     all: &[u32],
     count: usize,
     found: &mut [u16; ENTRIES],
     list: &mut [u16; ENTRIES],
-) -> Tally
+) -> io::Result<Tally>
     requires { count ≤ length all.now }
 {
     let coefficients = &all[..count];
     let number = own::refusal(p, coefficients);
     let roots = search::roots(number, p, coefficients, found);
     let places = compare::compared(p, coefficients, number, found, roots, list);
-    tally::print_first(t, places, p, coefficients);
-    tally::with_call(t, number, search::tried(number, p), roots, places)
+    tally::print_first(rt, t, places, p, coefficients)?;
+    Ok(tally::with_call(t, number, search::tried(number, p), roots, places))
 }
 
 fn blank() -> [u16; ENTRIES] {
@@ -33,12 +35,18 @@ fn blank() -> [u16; ENTRIES] {
 }
 
 // The same, with the two lists that it needs.
-pub fn call(t: Tally, p: u32, all: &[u32; ROOM], count: usize) -> Tally
+pub fn call(
+    rt: &HostRuntime,
+    t: Tally,
+    p: u32,
+    all: &[u32; ROOM],
+    count: usize,
+) -> io::Result<Tally>
     requires { count ≤ 20 }
 {
     let mut found = blank();
     let mut list = blank();
-    searched(t, p, all, count, &mut found, &mut list)
+    searched(rt, t, p, all, count, &mut found, &mut list)
 }
 
 // Below which number the coefficients of the equation e are drawn: for the first one they are all 0.
@@ -53,13 +61,14 @@ fn drawn_bound(e: u32, top: u32) -> u32
 }
 
 // The equation e of a field: 1 to m + 1 coefficients.
-pub fn drawn(t: Tally, e: u32, p: u32) -> Tally {
+pub fn drawn(rt: &HostRuntime, t: Tally, e: u32, p: u32) -> io::Result<Tally> {
     let mut u = t;
     let m = plain::degree(p);
     let seed = generator::next(t.seed);
     let mut coefficients = draw::zeros();
     u.seed = draw::coefficients(seed, drawn_bound(e, plain::size(m)), &mut coefficients);
     call(
+        rt,
         u,
         p,
         &coefficients,
@@ -68,7 +77,7 @@ pub fn drawn(t: Tally, e: u32, p: u32) -> Tally {
 }
 
 // A call in which anything may be wrong: the polynomial, the number of coefficients, which is up to m + 3, and one of them.
-pub fn damaged(t: Tally) -> Tally {
+pub fn damaged(rt: &HostRuntime, t: Tally) -> io::Result<Tally> {
     let mut u = t;
     let seed = generator::next(t.seed);
     let p = generator::polynomial(seed, draw::SMALL);
@@ -78,5 +87,5 @@ pub fn damaged(t: Tally) -> Tally {
     let mut coefficients = draw::zeros();
     u.seed = draw::coefficients(generator::next(seed), top, &mut coefficients);
     draw::damage(u.seed, top, count, &mut coefficients);
-    call(u, p, &coefficients, count as usize)
+    call(rt, u, p, &coefficients, count as usize)
 }

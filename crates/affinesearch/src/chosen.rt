@@ -2,6 +2,7 @@
 use crate::draw::ROOM;
 use crate::tally::Tally;
 use crate::{calls, draw, own};
+use std::io;
 use trial::inner::plain;
 
 const ROWS: u32 = 17;
@@ -69,11 +70,11 @@ fn constant(k: u32, p: u32, coefficients: &[u32]) -> u32 {
 }
 
 // The equation k, if there is one.
-pub fn equation(t: Tally, k: u32, p: u32) -> Tally {
+pub fn equation(rt: &HostRuntime, t: Tally, k: u32, p: u32) -> io::Result<Tally> {
     if ROWS <= k {
-        return t;
+        return Ok(t);
     }
     let mut coefficients = terms(k);
     coefficients[0] = constant(k, p, &coefficients);
-    calls::call(t, p, &coefficients, (cell(k, 0) % 20) as usize)
+    calls::call(rt, t, p, &coefficients, (cell(k, 0) % 20) as usize)
 }

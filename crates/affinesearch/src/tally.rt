@@ -1,5 +1,5 @@
 // What the run carries and prints.
-use libc::STDOUT_FILENO;
+use std::io;
 use std::num::{
     wrapping_add_u32, wrapping_add_u64 as plus, wrapping_sub_u32, wrapping_sub_u64 as minus,
 };
@@ -45,55 +45,64 @@ pub fn with_call(t: Tally, number: u32, tried: u32, roots: usize, places: u32) -
     u
 }
 
-pub fn print_count(n: u64, name: &[u8]) {
-    io::print_decimal(STDOUT_FILENO, n);
-    io::write_all(STDOUT_FILENO, name);
+pub fn print_count(rt: &HostRuntime, n: u64, name: &str) -> io::Result<()> {
+    print!(rt; "{n}{name}")
 }
 
 // What was counted after `before`, the calls turned down apart, up to the line end.
-pub fn print_since(before: Tally, t: Tally) {
+pub fn print_since(rt: &HostRuntime, before: Tally, t: Tally) -> io::Result<()> {
     let equations = wrapping_sub_u32(t.by[0], before.by[0]);
-    print_count(equations as u64, b" equations, ");
-    print_count(minus(t.tried, before.tried), b" elements tried, ");
-    print_count(minus(t.roots, before.roots), b" roots, ");
-    print_count(minus(t.places, before.places), b" places, ");
-    print_count(minus(t.differences, before.differences), b" differences\n");
+    print_count(rt, equations as u64, " equations, ")?;
+    print_count(rt, minus(t.tried, before.tried), " elements tried, ")?;
+    print_count(rt, minus(t.roots, before.roots), " roots, ")?;
+    print_count(rt, minus(t.places, before.places), " places, ")?;
+    print_count(
+        rt,
+        minus(t.differences, before.differences),
+        " differences\n",
+    )
 }
 
-fn print_number(n: u32) {
-    io::write_all(STDOUT_FILENO, b" ");
-    io::print_decimal(STDOUT_FILENO, n as u64);
+fn print_number(rt: &HostRuntime, n: u32) -> io::Result<()> {
+    print!(rt; " {n}")
 }
 
-fn print_numbers(numbers: &[u32]) {
+fn print_numbers(rt: &HostRuntime, numbers: &[u32]) -> io::Result<()> {
     for i in 0..numbers.len() {
-        print_number(numbers[i]);
+        print_number(rt, numbers[i])?;
     }
+    Ok(())
 }
 
-fn print_by(n: u32, name: &[u8]) {
-    print_count(n as u64, name);
+fn print_by(rt: &HostRuntime, n: u32, name: &str) -> io::Result<()> {
+    print_count(rt, n as u64, name)
 }
 
 // The calls by the number that they are turned down by.
-pub fn print_refused(t: Tally) {
-    io::write_all(STDOUT_FILENO, b"turned down: ");
-    print_by(t.by[1], b" by 1, ");
-    print_by(t.by[2], b" by 2, ");
-    print_by(t.by[3], b" by 3, ");
-    print_by(t.by[4], b" by 4\n");
+pub fn print_refused(rt: &HostRuntime, t: Tally) -> io::Result<()> {
+    print!(rt; "turned down: ")?;
+    print_by(rt, t.by[1], " by 1, ")?;
+    print_by(rt, t.by[2], " by 2, ")?;
+    print_by(rt, t.by[3], " by 3, ")?;
+    print_by(rt, t.by[4], " by 4\n")
 }
 
 // The first call with a difference, so that it can be looked into: its polynomial and its coefficients.
-pub fn print_first(t: Tally, places: u32, p: u32, coefficients: &[u32]) {
+pub fn print_first(
+    rt: &HostRuntime,
+    t: Tally,
+    places: u32,
+    p: u32,
+    coefficients: &[u32],
+) -> io::Result<()> {
     if t.differences != 0 {
-        return;
+        return Ok(());
     }
     if places != 0 {
-        return;
+        return Ok(());
     }
-    io::write_all(STDOUT_FILENO, b"first difference:");
-    print_number(p);
-    print_numbers(coefficients);
-    io::write_all(STDOUT_FILENO, b"\n");
+    print!(rt; "first difference:")?;
+    print_number(rt, p)?;
+    print_numbers(rt, coefficients)?;
+    println!(rt)
 }

@@ -4,6 +4,7 @@ ghost use Rattle.std.specs.Prelude.{◌≤◌};
 use crate::calls;
 use crate::draw::ROOM;
 use crate::tally::Tally;
+use std::io;
 use trial::inner::plain;
 
 // The largest degree of a field whose lists are few enough.
@@ -40,7 +41,7 @@ fn list(e: u32, top: u32) -> [u32; ROOM]
 }
 
 // All lists of n elements.
-fn lists_of_length(t: Tally, m: u32, p: u32, n: u32) -> Tally
+fn lists_of_length(rt: &HostRuntime, t: Tally, m: u32, p: u32, n: u32) -> io::Result<Tally>
     requires { (m ≤ 16) × (n ≤ 5) }
 {
     let mut u = t;
@@ -48,18 +49,18 @@ fn lists_of_length(t: Tally, m: u32, p: u32, n: u32) -> Tally
     let end = lists_of(m, n);
     for e in 0..end {
         let all = list(e, top);
-        u = calls::both(u, p, &all, n as usize);
+        u = calls::both(rt, u, p, &all, n as usize)?;
     }
-    u
+    Ok(u)
 }
 
 // All lists of up to five elements. Those of none are too short for `solve`, those of five too long for `build`.
-pub fn lists(t: Tally, m: u32, p: u32) -> Tally
+pub fn lists(rt: &HostRuntime, t: Tally, m: u32, p: u32) -> io::Result<Tally>
     requires { m ≤ 16 }
 {
     let mut u = t;
     for n in 0..6 {
-        u = lists_of_length(u, m, p, n);
+        u = lists_of_length(rt, u, m, p, n)?;
     }
-    u
+    Ok(u)
 }

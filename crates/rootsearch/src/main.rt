@@ -17,62 +17,64 @@ mod search;
 mod tally;
 
 use crate::tally::Tally;
+use std::io;
 use trial::inner::{generator, plain};
 
 const DAMAGED: u32 = 800;
 
 // The calls of a field: in the smallest ones every list, in the others what is drawn.
-fn field(t: Tally, m: u32, p: u32) -> Tally
+fn field(rt: &HostRuntime, t: Tally, m: u32, p: u32) -> io::Result<Tally>
     requires { m ≤ 16 }
 {
     if m <= every::LARGEST {
-        return every::lists(t, m, p);
+        return every::lists(rt, t, m, p);
     }
-    drawn::calls(t, m, p)
+    drawn::calls(rt, t, m, p)
 }
 
 // The calls for the second polynomial in the row: none where there is no second one.
-fn second(t: Tally, m: u32, row: u32) -> Tally
+fn second(rt: &HostRuntime, t: Tally, m: u32, row: u32) -> io::Result<Tally>
     requires { m ≤ 16 }
 {
     let p = generator::accepted(row, 1);
     if p == generator::accepted(row, 0) {
-        return t;
+        return Ok(t);
     }
-    field(t, m, p)
+    field(rt, t, m, p)
 }
 
 // The degree whose polynomials stand in the row.
-fn degree(t: Tally, row: u32) -> Tally {
+fn degree(rt: &HostRuntime, t: Tally, row: u32) -> io::Result<Tally> {
     let p = generator::accepted(row, 0);
     let m = plain::degree(p);
-    let u = second(field(t, m, p), m, row);
-    print::degree(m, t, u);
-    u
+    let first = field(rt, t, m, p)?;
+    let u = second(rt, first, m, row)?;
+    print::degree(rt, m, t, u)?;
+    Ok(u)
 }
 
-fn degrees(t: Tally) -> Tally {
+fn degrees(rt: &HostRuntime, t: Tally) -> io::Result<Tally> {
     let mut u = t;
     for row in 0..generator::ROWS {
-        u = degree(u, row);
+        u = degree(rt, u, row)?;
     }
-    u
+    Ok(u)
 }
 
-fn damaged(t: Tally) -> Tally {
+fn damaged(rt: &HostRuntime, t: Tally) -> io::Result<Tally> {
     let mut u = t;
     for e in 0..DAMAGED {
-        u = drawn::damaged(u);
+        u = drawn::damaged(rt, u)?;
     }
-    u
+    Ok(u)
 }
 
-fn main() {
+fn main(rt: HostRuntime) -> io::Result<()> {
     let start = tally::start();
-    let t = degrees(start);
-    let u = damaged(t);
-    print::since(b"damaged calls: ", t, u);
-    print::refused(b"solve turned down: ", u, tally::SOLVE, 6);
-    print::refused(b"build turned down: ", u, tally::BUILD, 5);
-    print::since(b"all: ", start, u);
+    let t = degrees(&rt, start)?;
+    let u = damaged(&rt, t)?;
+    print::since(&rt, "damaged calls: ", t, u)?;
+    print::refused(&rt, "solve turned down: ", u, tally::SOLVE, 6)?;
+    print::refused(&rt, "build turned down: ", u, tally::BUILD, 5)?;
+    print::since(&rt, "all: ", start, u)
 }

@@ -2,77 +2,79 @@
 ghost use Rattle.std.specs.Prelude.{◌<◌, ◌≤◌};
 
 use crate::tally::{BUILD, DIFFERENCES, MULTIPLE, ROOTS, SOLVE, TRIED, Tally};
-use libc::STDOUT_FILENO;
+use std::io;
 use std::num::wrapping_sub_u64 as minus;
 
 // What was counted at a place after `before`.
-fn count(before: Tally, t: Tally, place: usize, name: &[u8])
+fn count(rt: &HostRuntime, before: Tally, t: Tally, place: usize, name: &str) -> io::Result<()>
     requires { place < 16 }
 {
-    io::print_decimal(STDOUT_FILENO, minus(t.counts[place], before.counts[place]));
-    io::write_all(STDOUT_FILENO, name);
+    let counted = minus(t.counts[place], before.counts[place]);
+    print!(rt; "{counted}{name}")
 }
 
 // What was counted after `before`, the calls turned down apart, up to the line end.
-pub fn since(name: &[u8], before: Tally, t: Tally) {
-    io::write_all(STDOUT_FILENO, name);
-    count(before, t, SOLVE, b" equations, ");
-    count(before, t, TRIED, b" elements tried, ");
-    count(before, t, ROOTS, b" different roots, ");
-    count(before, t, MULTIPLE, b" multiple roots, ");
-    count(before, t, BUILD, b" builds with round trips, ");
-    count(before, t, DIFFERENCES, b" differences\n");
+pub fn since(rt: &HostRuntime, name: &str, before: Tally, t: Tally) -> io::Result<()> {
+    print!(rt; "{name}")?;
+    count(rt, before, t, SOLVE, " equations, ")?;
+    count(rt, before, t, TRIED, " elements tried, ")?;
+    count(rt, before, t, ROOTS, " different roots, ")?;
+    count(rt, before, t, MULTIPLE, " multiple roots, ")?;
+    count(rt, before, t, BUILD, " builds with round trips, ")?;
+    count(rt, before, t, DIFFERENCES, " differences\n")
 }
 
 // The same of the degree m.
-pub fn degree(m: u32, before: Tally, t: Tally) {
-    io::write_all(STDOUT_FILENO, b"m ");
-    io::print_decimal(STDOUT_FILENO, m as u64);
-    since(b": ", before, t);
+pub fn degree(rt: &HostRuntime, m: u32, before: Tally, t: Tally) -> io::Result<()> {
+    print!(rt; "m {m}")?;
+    since(rt, ": ", before, t)
 }
 
-fn by(n: u64, number: usize) {
-    io::print_decimal(STDOUT_FILENO, n);
-    io::write_all(STDOUT_FILENO, b" by ");
-    io::print_decimal(STDOUT_FILENO, number as u64);
-    io::write_all(STDOUT_FILENO, b", ");
+fn by(rt: &HostRuntime, n: u64, number: usize) -> io::Result<()> {
+    print!(rt; "{n} by {number}, ")
 }
 
 // The calls counted from the place `first` on, by the numbers below `end` that they are turned down by, and then the faultless ones.
-pub fn refused(name: &[u8], t: Tally, first: usize, end: usize)
+pub fn refused(rt: &HostRuntime, name: &str, t: Tally, first: usize, end: usize) -> io::Result<()>
     requires { (first ≤ 6) × (end ≤ 6) }
 {
     let counts = t.counts;
-    io::write_all(STDOUT_FILENO, name);
+    print!(rt; "{name}")?;
     for k in 1..end {
-        by(counts[first + k], k);
+        by(rt, counts[first + k], k)?;
     }
-    io::print_decimal(STDOUT_FILENO, counts[first]);
-    io::write_all(STDOUT_FILENO, b" by none\n");
+    let faultless = counts[first];
+    println!(rt; "{faultless} by none")
 }
 
 fn wide(n: u32) -> u64 {
     n as u64
 }
 
-fn numbers(list: &[u32]) {
+fn numbers(rt: &HostRuntime, list: &[u32]) -> io::Result<()> {
     for i in 0..list.len() {
-        io::write_all(STDOUT_FILENO, b" ");
-        io::print_decimal(STDOUT_FILENO, wide(list[i]));
+        let n = wide(list[i]);
+        print!(rt; " {n}")?;
     }
+    Ok(())
 }
 
 // The first call with a difference, so that it can be looked into: its name, its polynomial and its list.
-pub fn first_difference(t: Tally, agrees: bool, name: &[u8], p: u32, list: &[u32]) {
+pub fn first_difference(
+    rt: &HostRuntime,
+    t: Tally,
+    agrees: bool,
+    name: &str,
+    p: u32,
+    list: &[u32],
+) -> io::Result<()> {
     if agrees {
-        return;
+        return Ok(());
     }
     if t.counts[DIFFERENCES] != 0 {
-        return;
+        return Ok(());
     }
-    io::write_all(STDOUT_FILENO, b"first difference: ");
-    io::write_all(STDOUT_FILENO, name);
-    io::print_decimal(STDOUT_FILENO, p as u64);
-    numbers(list);
-    io::write_all(STDOUT_FILENO, b"\n");
+    print!(rt; "first difference: {name}{p}")?;
+    numbers(rt, list)?;
+    println!(rt)
 }

@@ -3,6 +3,7 @@ use crate::numbers::{at, exponent, from};
 use crate::print::MALFORMED;
 use crate::{affine_calls, print, roots_calls, said};
 use field::{Element, Exponent, LogNumber};
+use std::io;
 
 // The letters of each name, a byte each, as row.rt reads them.
 const ACCEPT: u64 = 0x61_63_63_65_70_74;
@@ -39,29 +40,32 @@ const LIST: u64 = 0x6c_69_73_74;
 
 // The first number is the field polynomial, or the degree for the house's; then come elements or exponents, or the list, before which
 // stands the place, or how many entries are lent.
-pub fn run(name: u64, negative: bool, numbers: &[u32]) {
+pub fn run(rt: &HostRuntime, name: u64, negative: bool, numbers: &[u32]) -> io::Result<()> {
     let p = at(numbers, 0);
     let a = at(numbers, 1);
     let b = at(numbers, 2);
     let list = from(numbers, 1);
     let coefficients = from(numbers, 2);
     match name {
-        ACCEPT => said::degree(field::accept(p)),
-        SUM => said::element(field::sum(p, Element(a), Element(b))),
-        PRODUCT => said::element(field::product(p, Element(a), Element(b))),
-        QUOTIENT => said::element(field::quotient(p, Element(a), Element(b))),
-        POWER => said::element(field::power(p, Element(a), Exponent(exponent(negative, b)))),
-        ROOT => said::element(field::square_root(p, Element(a))),
-        TRACE => said::trace(field::trace(p, Element(a))),
-        NUMBER => said::number(field::number_of_element(p, Element(a))),
-        ELEMENT => said::element(field::element_of_number(p, LogNumber(a))),
-        XPOWER => said::element(field::power_of_x(p, Exponent(exponent(negative, a)))),
-        HOUSE => said::polynomial(field::house_polynomial(p)),
-        SOLVE => roots_calls::solve(p, list),
-        BUILD => roots_calls::build(p, list),
-        AFFINE => affine_calls::solve(p, list),
-        PLACE => affine_calls::place(p, a, coefficients),
-        LIST => affine_calls::list(p, a, coefficients),
-        _ => print::turned_down(MALFORMED),
+        ACCEPT => said::degree(rt, field::accept(p)),
+        SUM => said::element(rt, field::sum(p, Element(a), Element(b))),
+        PRODUCT => said::element(rt, field::product(p, Element(a), Element(b))),
+        QUOTIENT => said::element(rt, field::quotient(p, Element(a), Element(b))),
+        POWER => said::element(
+            rt,
+            field::power(p, Element(a), Exponent(exponent(negative, b))),
+        ),
+        ROOT => said::element(rt, field::square_root(p, Element(a))),
+        TRACE => said::trace(rt, field::trace(p, Element(a))),
+        NUMBER => said::number(rt, field::number_of_element(p, Element(a))),
+        ELEMENT => said::element(rt, field::element_of_number(p, LogNumber(a))),
+        XPOWER => said::element(rt, field::power_of_x(p, Exponent(exponent(negative, a)))),
+        HOUSE => said::polynomial(rt, field::house_polynomial(p)),
+        SOLVE => roots_calls::solve(rt, p, list),
+        BUILD => roots_calls::build(rt, p, list),
+        AFFINE => affine_calls::solve(rt, p, list),
+        PLACE => affine_calls::place(rt, p, a, coefficients),
+        LIST => affine_calls::list(rt, p, a, coefficients),
+        _ => print::turned_down(rt, MALFORMED),
     }
 }

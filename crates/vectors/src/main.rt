@@ -13,33 +13,36 @@ mod row;
 mod said;
 
 use crate::row::Row;
-use libc::STDIN_FILENO;
+use std::io;
+use std::io::Read;
+
+// How many bytes are read at most.
+const MOST_BYTES: u64 = 65536;
 
 // The answer after the row, and the line end.
-fn finish(row: Row) {
+fn finish(rt: &HostRuntime, row: Row) -> io::Result<()> {
     let all = row.numbers;
-    print::words(b":");
-    calls::run(row.name, row.negative, numbers::first(&all, row.count));
-    print::words(b"\n");
+    print::words(rt, ":")?;
+    calls::run(rt, row.name, row.negative, numbers::first(&all, row.count))?;
+    print::words(rt, "\n")
 }
 
 // One byte of a row: it is written back, and at the row's end the answer after it.
-fn step(row: Row, b: u8) -> Row {
+fn step(rt: &HostRuntime, row: Row, b: u8) -> io::Result<Row> {
     if b == b'\n' {
-        finish(row);
-        return row::empty();
+        finish(rt, row)?;
+        return Ok(row::empty());
     }
-    let byte = [b; 1];
-    print::words(&byte);
-    row::next(row, b)
+    print::byte(rt, b)?;
+    Ok(row::next(row, b))
 }
 
-fn walk(text: &[u8]) -> Row {
+fn walk(rt: &HostRuntime, text: &[u8]) -> io::Result<Row> {
     let mut row = row::empty();
     for i in 0..text.len() {
-        row = step(row, text[i]);
+        row = step(rt, row, text[i])?;
     }
-    row
+    Ok(row)
 }
 
 // Whether the last row has no line end.
@@ -51,11 +54,12 @@ fn is_open(text: &[u8]) -> bool {
     text[n - 1] != b'\n'
 }
 
-fn main() {
-    let mut text = io::large_buffer();
-    let n = io::read_full(STDIN_FILENO, &mut text);
-    let last = walk(&text[..n]);
-    if is_open(&text[..n]) {
-        finish(last);
+fn main(rt: HostRuntime) -> io::Result<()> {
+    let mut text = Vec::new(rt.alloc());
+    rt.reader().take(MOST_BYTES).read_to_end(&mut text)?;
+    let last = walk(&rt, &text)?;
+    if is_open(&text) {
+        finish(&rt, last)?;
     }
+    Ok(())
 }
