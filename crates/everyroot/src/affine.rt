@@ -71,37 +71,49 @@ fn count(directions: [u32; BITS]) -> u32 {
     n
 }
 
-fn put_direction(o: Output, buffer: &mut [u8; ROOM], x: u32) -> Output {
+fn put_direction(rt: &HostRuntime, o: Output, buffer: &mut [u8; ROOM], x: u32) -> Output {
     if x == 0 {
         return o;
     }
-    output::put_element(o, buffer, x)
+    output::put_element(rt, o, buffer, x)
 }
 
-fn put_directions(o: Output, buffer: &mut [u8; ROOM], directions: [u32; BITS]) -> Output {
+fn put_directions(
+    rt: &HostRuntime,
+    o: Output,
+    buffer: &mut [u8; ROOM],
+    directions: [u32; BITS],
+) -> Output {
     let mut after = o;
     for j in 0..BITS {
-        after = put_direction(after, buffer, directions[j]);
+        after = put_direction(rt, after, buffer, directions[j]);
     }
     after
 }
 
-fn put_base(o: Output, buffer: &mut [u8; ROOM], found: u32, k: u32, base: u32) -> Output {
-    let after = output::put_byte(o, buffer, found);
-    let next = output::put_byte(after, buffer, k);
-    output::put_element(next, buffer, base)
+fn put_base(
+    rt: &HostRuntime,
+    o: Output,
+    buffer: &mut [u8; ROOM],
+    found: u32,
+    k: u32,
+    base: u32,
+) -> Output {
+    let after = output::put_byte(rt, o, buffer, found);
+    let next = output::put_byte(rt, after, buffer, k);
+    output::put_element(rt, next, buffer, base)
 }
 
 // What stands after 02, 00: found, k, the base, which is the smallest root, and the directions, ascending.
-pub fn put_answer(o: Output, buffer: &mut [u8; ROOM], f: Frame, m: u32) -> Output
+pub fn put_answer(rt: &HostRuntime, o: Output, buffer: &mut [u8; ROOM], f: Frame, m: u32) -> Output
     requires { m ≤ 16 }
 {
     let size: u32 = 1 << m;
     let base = smallest(f, size, f.coefficients[0], 0, size);
     if base == size {
-        return put_base(o, buffer, 0, 0, 0);
+        return put_base(rt, o, buffer, 0, 0, 0);
     }
     let list = directions(f, m);
-    let after = put_base(o, buffer, 1, count(list), base);
-    put_directions(after, buffer, list)
+    let after = put_base(rt, o, buffer, 1, count(list), base);
+    put_directions(rt, after, buffer, list)
 }

@@ -53,31 +53,39 @@ fn count(p: u32, size: u32, c: [u32; TERMS]) -> u32 {
 }
 
 // A root with its multiplicity; nothing where that is 0.
-fn put_root(o: Output, buffer: &mut [u8; ROOM], x: u32, k: u32) -> Output {
+fn put_root(rt: &HostRuntime, o: Output, buffer: &mut [u8; ROOM], x: u32, k: u32) -> Output {
     if k == 0 {
         return o;
     }
-    let after = output::put_element(o, buffer, x);
-    output::put_byte(after, buffer, k)
+    let after = output::put_element(rt, o, buffer, x);
+    output::put_byte(rt, after, buffer, k)
 }
 
 // The roots, ascending.
-fn put_roots(o: Output, buffer: &mut [u8; ROOM], p: u32, size: u32, c: [u32; TERMS]) -> Output {
-    let mut after = o;
-    for x in 0..size {
-        after = put_root(after, buffer, x, multiplicity(p, size, c, x));
-    }
-    after
-}
-
-// What stands after 01, 00: the count of roots and the roots.
-pub fn put_answer(
+fn put_roots(
+    rt: &HostRuntime,
     o: Output,
     buffer: &mut [u8; ROOM],
     p: u32,
     size: u32,
     c: [u32; TERMS],
 ) -> Output {
-    let counted = output::put_byte(o, buffer, count(p, size, c));
-    put_roots(counted, buffer, p, size, c)
+    let mut after = o;
+    for x in 0..size {
+        after = put_root(rt, after, buffer, x, multiplicity(p, size, c, x));
+    }
+    after
+}
+
+// What stands after 01, 00: the count of roots and the roots.
+pub fn put_answer(
+    rt: &HostRuntime,
+    o: Output,
+    buffer: &mut [u8; ROOM],
+    p: u32,
+    size: u32,
+    c: [u32; TERMS],
+) -> Output {
+    let counted = output::put_byte(rt, o, buffer, count(p, size, c));
+    put_roots(rt, counted, buffer, p, size, c)
 }

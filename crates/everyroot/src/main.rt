@@ -17,7 +17,10 @@ mod stream;
 use crate::frame::LONGEST;
 use crate::output::{Output, ROOM};
 use crate::stream::State;
-use libc::{STDERR_FILENO, STDIN_FILENO};
+use std::io::Read;
+
+// How many bytes a read asks for.
+const CHUNK: usize = 65536;
 
 // What a read left, and whether there is another.
 #[derive(Clone, Copy)]
@@ -27,11 +30,9 @@ struct After {
 }
 
 // A read has failed, and the line that had begun is not whole: it is forgotten, so that no part of a line is answered as if it were one.
-fn cut_off(s: State) -> After {
-    io::write_all(
-        STDERR_FILENO,
-        b"everyroot: a read failed; only the lines before it are answered\n",
-    );
+fn cut_off(rt: &HostRuntime, s: State) -> After {
+    // Where this fails too, there is nowhere left to say so.
+    let _ = eprintln!(rt; "everyroot: a read failed; only the lines before it are answered");
     let output = s.output;
     After {
         more: false,
@@ -40,22 +41,19 @@ fn cut_off(s: State) -> After {
 }
 
 // One read, and all its lines: the answers are handed on before the next read. A failed write ends the run.
-fn turn(s: State, line: &mut [u8; LONGEST], buffer: &mut [u8; ROOM]) -> After {
-    let mut bytes = io::large_buffer();
-    let got = libc::read(STDIN_FILENO, &mut bytes);
-    if got < 0 {
-        return cut_off(s);
-    }
-    if got == 0 {
+fn turn(rt: &HostRuntime, s: State, line: &mut [u8; LONGEST], buffer: &mut [u8; ROOM]) -> After {
+    let mut bytes = [0u8; CHUNK];
+    let Ok(n) = rt.stdin().read(&mut bytes) else {
+        return cut_off(rt, s);
+    };
+    if n == 0 {
         return After {
             more: false,
             state: s,
         };
     }
-    let n = io::count(got, &bytes);
-    let walked = stream::walked(s, line, buffer, &bytes[..n]);
-    let waiting = walked.output;
-    let handed = output::flushed(waiting, buffer);
+    let walked = stream::walked(rt, s, line, buffer, &bytes[..n]);
+    let handed = output::flushed(rt, walked.output, buffer);
     After {
         more: handed.open,
         state: State {
@@ -66,31 +64,29 @@ fn turn(s: State, line: &mut [u8; LONGEST], buffer: &mut [u8; ROOM]) -> After {
 }
 
 // Reads to the end of the input, one turn after another.
-fn turns(s: State, line: &mut [u8; LONGEST], buffer: &mut [u8; ROOM]) -> State {
+fn turns(rt: &HostRuntime, s: State, line: &mut [u8; LONGEST], buffer: &mut [u8; ROOM]) -> State {
     let mut state = s;
-    let mut left = u64::MAX;
-    while left > 0 {
-        let t = turn(state, line, buffer);
+    for _ in 0..u64::MAX {
+        let t = turn(rt, state, line, buffer);
         state = t.state;
         if !t.more {
             return state;
         }
-        left -= 1;
     }
     state
 }
 
 // A last line without a line feed counts.
-fn last(s: State, line: &mut [u8; LONGEST], buffer: &mut [u8; ROOM]) -> State {
+fn last(rt: &HostRuntime, s: State, line: &mut [u8; LONGEST], buffer: &mut [u8; ROOM]) -> State {
     if s.length == 0 {
         return s;
     }
-    stream::ended(s, line, buffer)
+    stream::ended(rt, s, line, buffer)
 }
 
-fn main() {
+fn main(rt: HostRuntime) {
     let mut line = [0u8; LONGEST];
-    let mut buffer = io::large_buffer();
+    let mut buffer = [0u8; ROOM];
     let start = State {
         length: 0,
         output: Output {
@@ -98,8 +94,7 @@ fn main() {
             open: true,
         },
     };
-    let read = turns(start, &mut line, &mut buffer);
-    let done = last(read, &mut line, &mut buffer);
-    let waiting = done.output;
-    output::flushed(waiting, &mut buffer);
+    let read = turns(&rt, start, &mut line, &mut buffer);
+    let done = last(&rt, read, &mut line, &mut buffer);
+    output::flushed(&rt, done.output, &mut buffer);
 }

@@ -24,29 +24,46 @@ fn with_byte(s: State, line: &mut [u8; LONGEST], b: u8) -> State {
 }
 
 // The line is at its end: it is answered, and the next one begins. After a write that failed no line is answered.
-pub fn ended(s: State, line: &mut [u8; LONGEST], buffer: &mut [u8; ROOM]) -> State {
+pub fn ended(
+    rt: &HostRuntime,
+    s: State,
+    line: &mut [u8; LONGEST],
+    buffer: &mut [u8; ROOM],
+) -> State {
     let before = s.output;
     if !before.open {
         return s;
     }
     State {
         length: 0,
-        output: answer::put_line(before, buffer, line, s.length),
+        output: answer::put_line(rt, before, buffer, line, s.length),
     }
 }
 
-fn step(s: State, line: &mut [u8; LONGEST], buffer: &mut [u8; ROOM], b: u8) -> State {
+fn step(
+    rt: &HostRuntime,
+    s: State,
+    line: &mut [u8; LONGEST],
+    buffer: &mut [u8; ROOM],
+    b: u8,
+) -> State {
     if b == b'\n' {
-        return ended(s, line, buffer);
+        return ended(rt, s, line, buffer);
     }
     with_byte(s, line, b)
 }
 
 // The bytes of one read.
-pub fn walked(s: State, line: &mut [u8; LONGEST], buffer: &mut [u8; ROOM], bytes: &[u8]) -> State {
+pub fn walked(
+    rt: &HostRuntime,
+    s: State,
+    line: &mut [u8; LONGEST],
+    buffer: &mut [u8; ROOM],
+    bytes: &[u8],
+) -> State {
     let mut next = s;
     for i in 0..bytes.len() {
-        next = step(next, line, buffer, bytes[i]);
+        next = step(rt, next, line, buffer, bytes[i]);
     }
     next
 }

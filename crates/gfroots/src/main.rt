@@ -11,7 +11,10 @@ mod output;
 use crate::output::{OUTPUT_ROOM, Output, handed_on, with_answer};
 use frames::OpenLine;
 use frames::limits::{ANSWER_ROOM, MOST_DIGITS};
-use libc::{STDERR_FILENO, STDIN_FILENO};
+use std::io::Read;
+
+// How many bytes a read asks for.
+const CHUNK: usize = 65536;
 
 // The line that has begun, and where the output stands.
 #[derive(Clone, Copy)]
@@ -36,6 +39,7 @@ struct After {
 
 // One call, and what it wrote added to the output.
 fn call(
+    rt: &HostRuntime,
     s: State,
     line: &mut [u8; MOST_DIGITS],
     chunk: &[u8],
@@ -48,7 +52,7 @@ fn call(
     let mut answer: [u8; ANSWER_ROOM] = [0; ANSWER_ROOM];
     let p = frames::next_answer(s.begun, line, chunk, &mut answer);
     let n = p.written;
-    let output = with_answer(s.output, buffer, &answer[..n]);
+    let output = with_answer(rt, s.output, buffer, &answer[..n]);
     let begun = p.line;
     Called {
         state: State { begun, output },
@@ -58,6 +62,7 @@ fn call(
 
 // Call after call, until the chunk is used up or a write has failed.
 fn worked(
+    rt: &HostRuntime,
     s: State,
     line: &mut [u8; MOST_DIGITS],
     chunk: &[u8],
@@ -69,7 +74,7 @@ fn worked(
     let mut state = s;
     let mut at = 0;
     while at < chunk.len() {
-        let next = call(state, line, &chunk[at..], buffer);
+        let next = call(rt, state, line, &chunk[at..], buffer);
         state = next.state;
         at = at + next.taken;
         if !state.output.goes_on {
@@ -80,14 +85,12 @@ fn worked(
 }
 
 // A read has failed, and the line that had begun is not whole: it is forgotten, so that no part of a line is answered as if it were one.
-fn cut_off(s: State) -> After
+fn cut_off(rt: &HostRuntime, s: State) -> After
     requires { s.output.waiting ≤ output_room }
     ensures { result.state.output.waiting ≤ output_room }
 {
-    io::write_all(
-        STDERR_FILENO,
-        b"gfroots: a read failed; only the lines before it are answered\n",
-    );
+    // Where this fails too, there is nowhere left to say so.
+    let _ = eprintln!(rt; "gfroots: a read failed; only the lines before it are answered");
     let output = s.output;
     After {
         state: State {
@@ -100,6 +103,7 @@ fn cut_off(s: State) -> After
 
 // One read, and all that it brought: the answers are handed on before the next read. A failed write ends the run.
 fn turn(
+    rt: &HostRuntime,
     s: State,
     line: &mut [u8; MOST_DIGITS],
     chunk: &mut [u8],
@@ -108,19 +112,17 @@ fn turn(
     requires { s.output.waiting ≤ output_room }
     ensures { result.state.output.waiting ≤ output_room }
 {
-    let got = libc::read(STDIN_FILENO, chunk);
-    if got < 0 {
-        return cut_off(s);
-    }
-    if got == 0 {
+    let Ok(n) = rt.stdin().read(chunk) else {
+        return cut_off(rt, s);
+    };
+    if n == 0 {
         return After {
             state: s,
             more: false,
         };
     }
-    let n = io::count(got, chunk);
-    let read = worked(s, line, &chunk[..n], buffer);
-    let output = handed_on(read.output, buffer);
+    let read = worked(rt, s, line, &chunk[..n], buffer);
+    let output = handed_on(rt, read.output, buffer);
     let begun = read.begun;
     After {
         state: State { begun, output },
@@ -129,7 +131,12 @@ fn turn(
 }
 
 // Reads to the end of the input.
-fn all(line: &mut [u8; MOST_DIGITS], chunk: &mut [u8], buffer: &mut [u8; OUTPUT_ROOM]) -> State
+fn all(
+    rt: &HostRuntime,
+    line: &mut [u8; MOST_DIGITS],
+    chunk: &mut [u8],
+    buffer: &mut [u8; OUTPUT_ROOM],
+) -> State
     ensures { result.output.waiting ≤ output_room }
 {
     let mut state = State {
@@ -139,32 +146,30 @@ fn all(line: &mut [u8; MOST_DIGITS], chunk: &mut [u8], buffer: &mut [u8; OUTPUT_
             goes_on: true,
         },
     };
-    let mut turns = u64::MAX;
-    while turns > 0 {
-        let after = turn(state, line, chunk, buffer);
+    for _ in 0..u64::MAX {
+        let after = turn(rt, state, line, chunk, buffer);
         state = after.state;
         if !after.more {
             return state;
         }
-        turns -= 1;
     }
     state
 }
 
 // A last line without line feed counts.
-fn last(s: State, line: &[u8; MOST_DIGITS], buffer: &mut [u8; OUTPUT_ROOM])
+fn last(rt: &HostRuntime, s: State, line: &[u8; MOST_DIGITS], buffer: &mut [u8; OUTPUT_ROOM])
     requires { s.output.waiting ≤ output_room }
 {
     let mut answer: [u8; ANSWER_ROOM] = [0; ANSWER_ROOM];
     let written = frames::last_answer(s.begun, line, &mut answer);
-    let output = with_answer(s.output, buffer, &answer[..written]);
-    handed_on(output, buffer);
+    let output = with_answer(rt, s.output, buffer, &answer[..written]);
+    handed_on(rt, output, buffer);
 }
 
-fn main() {
+fn main(rt: HostRuntime) {
     let mut line: [u8; MOST_DIGITS] = [0; MOST_DIGITS];
-    let mut chunk = io::large_buffer();
+    let mut chunk: [u8; CHUNK] = [0; CHUNK];
     let mut buffer: [u8; OUTPUT_ROOM] = [0; OUTPUT_ROOM];
-    let state = all(&mut line, &mut chunk, &mut buffer);
-    last(state, &line, &mut buffer);
+    let state = all(&rt, &mut line, &mut chunk, &mut buffer);
+    last(&rt, state, &line, &mut buffer);
 }

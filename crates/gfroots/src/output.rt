@@ -5,7 +5,6 @@ ghost use Rattle.frames.specs.Limits.{answer_room};
 ghost use Rattle.gfroots.specs.Output.{output_room, next_place};
 
 use frames::limits::ANSWER_ROOM;
-use libc::{STDERR_FILENO, STDOUT_FILENO};
 
 pub const OUTPUT_ROOM: usize = 65536;
 
@@ -17,19 +16,17 @@ pub struct Output {
 }
 
 // Writes all of it, or says on standard error that answers are missing.
-fn written(text: &[u8]) -> bool {
-    if io::write_all(STDOUT_FILENO, text) {
+fn written(rt: &HostRuntime, text: &[u8]) -> bool {
+    if rt.write_all(text).is_ok() {
         return true;
     }
-    io::write_all(
-        STDERR_FILENO,
-        b"gfroots: a write failed; answers are missing\n",
-    );
+    // Where this fails too, there is nowhere left to say so.
+    let _ = eprintln!(rt; "gfroots: a write failed; answers are missing");
     false
 }
 
 // Hands on what waits. After a write that failed there is no other.
-pub fn handed_on(o: Output, buffer: &[u8]) -> Output
+pub fn handed_on(rt: &HostRuntime, o: Output, buffer: &[u8]) -> Output
     requires { o.waiting ≤ length buffer.now }
     ensures { result.waiting ≡ 0 }
 {
@@ -42,12 +39,12 @@ pub fn handed_on(o: Output, buffer: &[u8]) -> Output
     }
     Output {
         waiting: 0,
-        goes_on: written(&buffer[..n]),
+        goes_on: written(rt, &buffer[..n]),
     }
 }
 
 // Room for one answer more.
-fn with_room(o: Output, buffer: &[u8; OUTPUT_ROOM]) -> Output
+fn with_room(rt: &HostRuntime, o: Output, buffer: &[u8; OUTPUT_ROOM]) -> Output
     requires { o.waiting ≤ output_room }
     ensures waiting_value { result.waiting ≡ next_place o.waiting }
     ensures answer_room_bound { result.waiting + answer_room ≤ output_room }
@@ -55,7 +52,7 @@ fn with_room(o: Output, buffer: &[u8; OUTPUT_ROOM]) -> Output
     if o.waiting + ANSWER_ROOM <= OUTPUT_ROOM {
         return o;
     }
-    handed_on(o, buffer)
+    handed_on(rt, o, buffer)
 }
 
 fn copy(buffer: &mut [u8; OUTPUT_ROOM], at: usize, text: &[u8])
@@ -68,13 +65,18 @@ fn copy(buffer: &mut [u8; OUTPUT_ROOM], at: usize, text: &[u8])
 }
 
 // An answer, added after what waits.
-pub fn with_answer(o: Output, buffer: &mut [u8; OUTPUT_ROOM], text: &[u8]) -> Output
+pub fn with_answer(
+    rt: &HostRuntime,
+    o: Output,
+    buffer: &mut [u8; OUTPUT_ROOM],
+    text: &[u8],
+) -> Output
     requires { (o.waiting ≤ output_room) × (length text.now ≤ answer_room) }
     ensures waiting_value { result.waiting ≡ next_place o.waiting + length text.now }
     ensures waiting_le_output_room { result.waiting ≤ output_room }
     ensures buffer_after { buffer.new ≡ sets buffer.old (next_place o.waiting) text.now }
 {
-    let p = with_room(o, buffer);
+    let p = with_room(rt, o, buffer);
     copy(buffer, p.waiting, text);
     Output {
         waiting: p.waiting + text.len(),
