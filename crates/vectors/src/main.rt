@@ -4,6 +4,8 @@
 // which tests/vectors.py made.
 #![tactic(auto)]
 
+ghost use Rattle.std.specs.Prelude.{◌≤◌, length};
+
 mod affine_calls;
 mod calls;
 mod numbers;
@@ -17,7 +19,7 @@ use std::io;
 use std::io::Read;
 
 // How many bytes are read at most.
-const MOST_BYTES: u64 = 65536;
+const MOST_BYTES: usize = 65536;
 
 // The answer after the row, and the line end.
 fn finish(rt: &HostRuntime, row: Row) -> io::Result<()> {
@@ -54,11 +56,28 @@ fn is_open(text: &[u8]) -> bool {
     text[n - 1] != b'\n'
 }
 
+// Reads until the buffer is full, the input ends or a read fails, and says how many bytes it holds.
+fn read_full(rt: &HostRuntime, buffer: &mut [u8]) -> usize
+    ensures { result ≤ length buffer.new }
+{
+    let mut done = 0;
+    while done < buffer.len() {
+        let Ok(n) = rt.stdin().read(&mut buffer[done..]) else {
+            return done;
+        };
+        if n == 0 {
+            return done;
+        }
+        done += n;
+    }
+    done
+}
+
 fn main(rt: HostRuntime) -> io::Result<()> {
-    let mut text = Vec::new(rt.alloc());
-    rt.reader().take(MOST_BYTES).read_to_end(&mut text)?;
-    let last = walk(&rt, &text)?;
-    if is_open(&text) {
+    let mut text = [0u8; MOST_BYTES];
+    let n = read_full(&rt, &mut text);
+    let last = walk(&rt, &text[..n])?;
+    if is_open(&text[..n]) {
         finish(&rt, last)?;
     }
     Ok(())
