@@ -28,16 +28,16 @@ both-zero by-two byteAt bytes-fit calls-spec choose-one chosenOf cmp-step copy-s
 digit-lt digits-lt digits-of done-at entries-at entry-spec enum-told exponent-lt few-bytes field-laws fill-spec filled-none
 filled-put first-below first-kind fold-step four-are from-end from-first from-front from-is from-next front-length gap-length
 goes-on half-lt held-kept held-more holds-at holds-more in-order is-field is-found is-true keep-all kindOf last-some left-over
-less-one less-zero limit-is line-refused linesOf listed-by listed-le listed-same listing-none listing-start map-at map-same merge-
-step moved-all mul-assoc mul-comm mul-in mul-left mul-wide mulF no-bits no-bytes no-digit no-line no-longer no-second number-lt
-numberOf odd-pos of-map one-down one-in one-more one-not-zero one-number one-power one-product one-same one-value ordered-at part-
-small place-is placed-at power-le product-lt put-all put-both put-last put-next put-spec put-then quotient-by quotient-is
-quotientOf read-spec reads-chunks reads-end ready-at remainder-of roots-few round-trip row-at rowOf rows-all rows-long rows-ok
-rowsOf same-answer same-at same-bits same-bytes same-count same-digits same-length same-line same-ok same-refl same-spec same-step
-same-test same-tests same-text scale-ok self-mod sets-then shift-is size-is so-far some-one some-same sorting-start spaceOf step-
-is sub-order sub-out sum-comm sum-lt sum-self sumOf take-min taken-not taken-yes takenOf times-zero to-below to-last to-map too-
-large too-long top-digit top-of top-one total-at-most two-pos unit-ok upTo value-spec valueAt valueOf written-none writtenOf xor-
-assoc xor-comm xor-lt xor-self xor-shr zero-of zero-xor
+less-one less-zero limit-is line-refused linesOf listed-by listed-le listed-same listing-none listing-start map-at map-same
+merge-step moved-all mul-assoc mul-comm mul-in mul-left mul-wide mulF no-bits no-bytes no-digit no-line no-longer no-second
+number-lt numberOf odd-pos of-map one-down one-in one-more one-not-zero one-number one-power one-product one-same one-value
+ordered-at part-small place-is placed-at power-le product-lt put-all put-both put-last put-next put-spec put-then quotient-by
+quotient-is quotientOf read-spec reads-chunks reads-end ready-at remainder-of roots-few round-trip row-at rowOf rows-all rows-long
+rows-ok rowsOf same-answer same-at same-bits same-bytes same-count same-digits same-length same-line same-ok same-refl same-spec
+same-step same-test same-tests same-text scale-ok self-mod sets-then shift-is size-is so-far some-one some-same sorting-start
+spaceOf step-is sub-order sub-out sum-comm sum-lt sum-self sumOf take-min taken-not taken-yes takenOf times-zero to-below to-last
+to-map too-large too-long top-digit top-of top-one total-at-most two-pos unit-ok upTo value-spec valueAt valueOf written-none
+writtenOf xor-assoc xor-comm xor-lt xor-self xor-shr zero-of zero-xor
 """.split()
 # words of the older library inside our names
 WORDS = {"getD": "get_or"}
