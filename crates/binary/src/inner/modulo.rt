@@ -1,29 +1,50 @@
-// The product modulo a polynomial p of degree m.
-ghost use Rattle.std.specs.Prelude.{◌≡◌, ◌^◌, ◌<◌};
-ghost use Rattle.binary.specs.Product.{product, times_x, Modulus};
+// Sums and products modulo a polynomial.
+ghost use Rattle.std.specs.Prelude.{◌≡◌, ◌^◌, ◌≤◌, ◌<◌};
+ghost use Rattle.binary.specs.Product.{product, times_x, Modulus as IsModulus};
+ghost use Rattle.binary.specs.Factor.{degree_of};
 
-use crate::inner::digit::picked;
+use crate::inner::digit::{degree, picked};
 
-// x times the polynomial x: a shift, and p taken off where a digit goes out at the top.
-pub fn doubled(p: u32, m: u32, x: u32) -> u32
-    requires { Modulus m p × (x < 2 ^ m) }
-    ensures { result ≡ times_x p x }
-{
-    x * 2 ^ picked(x >> (m - 1), p)
+// A polynomial to divide by, and its degree: from 2 on, and small enough that a double has room in a word.
+#[derive(Clone, Copy, Debug, PartialEq, Eq)]
+pub struct Modulus {
+    pub polynomial: u32,
+    pub degree: u32,
+    pub ghost is_modulus: { IsModulus degree polynomial },
 }
 
-// One digit of b a turn, lowest first, with a doubled beside it.
-pub fn product(p: u32, m: u32, a: u32, b: u32) -> u32
-    requires { Modulus m p × (a < 2 ^ m) × (b < 2 ^ m) }
-    ensures { result ≡ product p a b }
-{
-    let mut sum: u32 = 0;
-    let mut x = a;
-    let mut y = b;
-    for k in 0..m {
-        sum = sum ^ picked(y % 2, x);
-        x = doubled(p, m, x);
-        y = y / 2;
+impl Modulus {
+    pub fn new(polynomial: u32) -> Self
+        requires { (4 ≤ polynomial) × (polynomial < 2 ^ 31) }
+        ensures { (result.polynomial ≡ polynomial) × (result.degree ≡ degree_of polynomial) }
+    {
+        Modulus {
+            polynomial,
+            degree: degree(polynomial),
+        }
     }
-    sum
+
+    // x times the polynomial x: a shift, and the modulus taken off where a digit goes out at the top.
+    pub fn doubled(self, x: u32) -> u32
+        requires { x < 2 ^ self.degree }
+        ensures { result ≡ times_x self.polynomial x }
+    {
+        x * 2 ^ picked(x >> (self.degree - 1), self.polynomial)
+    }
+
+    // One digit of b a turn, lowest first, with a doubled beside it.
+    pub fn product(self, a: u32, b: u32) -> u32
+        requires { (a < 2 ^ self.degree) × (b < 2 ^ self.degree) }
+        ensures { result ≡ product self.polynomial a b }
+    {
+        let mut sum: u32 = 0;
+        let mut x = a;
+        let mut y = b;
+        for k in 0..self.degree {
+            sum ^= picked(y % 2, x);
+            x = self.doubled(x);
+            y /= 2;
+        }
+        sum
+    }
 }

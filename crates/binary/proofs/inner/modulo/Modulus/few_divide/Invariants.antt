@@ -2,7 +2,7 @@
 use Rattle.std.proofs.Common.{◌≡◌, ℕ, ◌-◌, ◌<◌, ◌≤◌, false}
 use Rattle.binary.specs.Remainder.{divides}
 use Rattle.binary.specs.Block.{block}
-use Rattle.binary.proofs.inner.factor.few_divide.Given as goal
+use Rattle.binary.proofs.inner.modulo.Modulus.few_divide.Given as goal
 
 -- d is next
 pub record Tried (p d : ℕ) : Type 0 where
@@ -11,7 +11,7 @@ pub record Tried (p d : ℕ) : Type 0 where
   pub none : (j : ℕ) → j < d → 2 ≤ j → divides j p ≡ false
 
 abbrev pub invariant-loop-d : goal.invariant-loop-d
-invariant-loop-d l = Tried l.p l.d
+invariant-loop-d l = Tried l.self.polynomial l.d
 
 abbrev pub decreases-loop-d : goal.decreases-loop-d
 decreases-loop-d l = block - l.d

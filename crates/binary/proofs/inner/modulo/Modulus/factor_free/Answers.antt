@@ -12,8 +12,8 @@ use Rattle.binary.specs.Block.{block, entries, Divisions, Room}
 use Rattle.binary.proofs.Xor.{exp_lt}
 use Rattle.binary.proofs.Factor.{factor_free_lem, divisor_found}
 use Rattle.binary.proofs.Block.{entries_at, block-below}
-use Rattle.binary.proofs.inner.factor.factor_free.Invariants.{Tried}
-use Rattle.binary.proofs.inner.factor.factor_free.Goals as goal
+use Rattle.binary.proofs.inner.modulo.Modulus.factor_free.Invariants.{Tried}
+use Rattle.binary.proofs.inner.modulo.Modulus.factor_free.Goals as goal
 
 -- the limit 2 ^ (m / 2 + 1) is no larger than p, and small
 limit-le : {m p limit : ℕ} → Modulus m p → limit ≡ 2 ^ (m / 2 + 1) → (limit ≤ p) × (limit ≤ 2 ^ 16)
@@ -112,22 +112,22 @@ module _ {m p limit first : ℕ} {divisors : List ℕ} (t : Tried m p limit firs
             eqb-false (remainder p j) 0
             (ap (λ (x : ℕ). divides x p) (sym q) ∙ sym (place (j - first) k) ∙ some_not (λ i. divides (get_or divisors i 0) p) block s (j - first) k)
 
-pub overflow_add-m : goal.overflow_add-m
-overflow_add-m c = omega (arith, c.requires.fits)
+pub overflow_add-self : goal.overflow_add-self
+overflow_add-self c = omega (arith, c.args.self.is_modulus.fits)
 
 pub power_of_two-limit-requires : goal.power_of_two-limit-requires
-power_of_two-limit-requires c = omega (arith, c.requires.fits)
+power_of_two-limit-requires c = omega (arith, c.args.self.is_modulus.fits)
 
 pub few_divide-requires : goal.few_divide-requires
-few_divide-requires c = (c.requires, (limit-le c.requires c.power_of_two-limit.ensures).0)
+few_divide-requires c = (limit-le c.args.self.is_modulus c.power_of_two-limit.ensures).0
 
 pub returns-then-few_divide : goal.returns-then-few_divide
 returns-then-few_divide c =
     let a = c.args in
-    small-divisor a.m a.p c.power_of_two-limit.result c.power_of_two-limit.ensures (sym c.few_divide.ensures ∙ c.if-few_divide.true)
+    small-divisor a.self.degree a.self.polynomial c.power_of_two-limit.result c.power_of_two-limit.ensures (sym c.few_divide.ensures ∙ c.if-few_divide.true)
 
 pub loop-first-init : goal.loop-first-init
-loop-first-init c = start c.requires c.power_of_two-limit.ensures (sym c.few_divide.ensures ∙ c.if-few_divide.false)
+loop-first-init c = start c.args.self.is_modulus c.power_of_two-limit.ensures (sym c.few_divide.ensures ∙ c.if-few_divide.false)
 
 pub degree-requires : goal.degree-requires
 degree-requires c = omega (arith, c.loop-first.invariant.low)

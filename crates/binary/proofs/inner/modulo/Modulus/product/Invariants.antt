@@ -2,7 +2,7 @@
 use Rattle.std.proofs.Common.{◌≡◌, ℕ, ◌-◌, ◌^◌, ◌<◌, ◌≤◌}
 use Rattle.binary.specs.Xor.{◌⊕◌}
 use Rattle.binary.specs.Product.{product}
-use Rattle.binary.proofs.inner.modulo.product.Given as goal
+use Rattle.binary.proofs.inner.modulo.Modulus.product.Given as goal
 
 pub record Summed (m p w sum x y k : ℕ) : Type 0 where
   pub turns : k ≤ m
@@ -11,7 +11,7 @@ pub record Summed (m p w sum x y k : ℕ) : Type 0 where
   pub whole : sum ⊕ product p x y ≡ w
 
 abbrev pub invariant-loop-k : goal.invariant-loop-k
-invariant-loop-k l = Summed l.m l.p (product l.p l.a l.b) l.sum l.x l.y l.k
+invariant-loop-k l = Summed l.self.degree l.self.polynomial (product l.self.polynomial l.a l.b) l.sum l.x l.y l.k
 
 abbrev pub decreases-loop-k : goal.decreases-loop-k
-decreases-loop-k l = l.m - l.k
+decreases-loop-k l = l.self.degree - l.k

@@ -4,8 +4,8 @@ use Rattle.algebra.specs.Search.{some_below}
 use Rattle.algebra.proofs.Search.{some_one, some_none}
 use Rattle.binary.specs.Remainder.{remainder, divides}
 use Rattle.binary.specs.Block.{block}
-use Rattle.binary.proofs.inner.factor.few_divide.Invariants.{Tried}
-use Rattle.binary.proofs.inner.factor.few_divide.Goals as goal
+use Rattle.binary.proofs.inner.modulo.Modulus.few_divide.Invariants.{Tried}
+use Rattle.binary.proofs.inner.modulo.Modulus.few_divide.Goals as goal
 
 start : (p : ℕ) → Tried p 2
 start p = record { low = omega arith; high = omega arith; none = λ j l h. absurd (omega arith) }
@@ -26,24 +26,24 @@ all p limit d t l =
     sym (some_none (λ i. divides (suc (suc i)) p) (min limit block - 2) (λ j h. t.none (suc (suc j)) (omega arith) (omega arith)))
 
 pub loop-d-init : goal.loop-d-init
-loop-d-init c = start c.args.p
+loop-d-init c = start c.args.self.polynomial
 
 pub returns-then-limit-d : goal.returns-then-limit-d
 returns-then-limit-d c =
     let a = c.args in
-    all a.p a.limit c.loop-d.d c.loop-d.invariant (omega (arith, c.if-limit-d.true))
+    all a.self.polynomial a.limit c.loop-d.d c.loop-d.invariant (omega (arith, c.if-limit-d.true))
 
 pub remainder-requires : goal.remainder-requires
 remainder-requires c =
-    let M = c.requires.0 in
-    let w = c.requires.1 in
+    let M = c.args.self.is_modulus in
+    let w = c.requires in
     record { degree = M.degree; fits = M.fits; two = c.loop-d.invariant.low; most = omega arith }
 
 pub returns-then-remainder-eq0 : goal.returns-then-remainder-eq0
 returns-then-remainder-eq0 c =
     let a = c.args in
     let l = c.loop-d in
-    divisor a.p a.limit l.d c.remainder.result l.invariant (omega arith) (omega arith) c.remainder.ensures c.if-remainder-eq0.true
+    divisor a.self.polynomial a.limit l.d c.remainder.result l.invariant (omega arith) (omega arith) c.remainder.ensures c.if-remainder-eq0.true
 
 pub overflow_step-d : goal.overflow_step-d
 overflow_step-d c = omega arith
@@ -55,9 +55,9 @@ pub loop-d-preserved : goal.loop-d-preserved
 loop-d-preserved c =
     let a = c.args in
     let l = c.loop-d in
-    turn a.p l.d c.remainder.result l.invariant (omega arith) c.remainder.ensures c.if-remainder-eq0.false
+    turn a.self.polynomial l.d c.remainder.result l.invariant (omega arith) c.remainder.ensures c.if-remainder-eq0.false
 
 pub returns : goal.returns
 returns c =
     let a = c.args in
-    all a.p a.limit c.loop-d.d c.loop-d.invariant (omega arith)
+    all a.self.polynomial a.limit c.loop-d.d c.loop-d.invariant (omega arith)

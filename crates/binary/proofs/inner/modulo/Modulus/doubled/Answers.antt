@@ -3,7 +3,7 @@ use Rattle.std.proofs.Common.{◌≡◌, ℕ, suc, ◌-◌, ◌*◌, ◌/◌, �
 use Rattle.binary.specs.Xor.{◌⊕◌}
 use Rattle.binary.proofs.Xor.{is_xor}
 use Rattle.binary.proofs.Modulus.{times_x_is}
-use Rattle.binary.proofs.inner.modulo.doubled.Goals as goal
+use Rattle.binary.proofs.inner.modulo.Modulus.doubled.Goals as goal
 
 top_digit : (m x : ℕ) → 2 ≤ m → x < 2 ^ m → x / 2 ^ (m - 1) < 2
 top_digit m x g h =
@@ -12,14 +12,14 @@ top_digit m x g h =
     (div-lt_iff_lt-mul {k = 2 ^ (m - 1)} {x = x} {y = 2} (pow_pos (m - 1))).1 (omega arith)
 
 pub overflow_mul-result : goal.overflow_mul-result
-overflow_mul-result c = omega (arith, pow_mono c.requires.0.fits)
+overflow_mul-result c = omega (arith, pow_mono c.args.self.is_modulus.fits)
 
 pub picked-requires : goal.picked-requires
-picked-requires c = top_digit c.args.m c.args.x c.requires.0.two c.requires.1
+picked-requires c = top_digit c.args.self.degree c.args.x c.args.self.is_modulus.two c.requires
 
 pub returns : goal.returns
 returns c =
     let a = c.args in
-    let f = c.requires.0 in
+    let f = a.self.is_modulus in
     sym (is_xor (a.x * 2) c.picked.result) ∙ ap (λ (v : ℕ). a.x * 2 ⊕ v) c.picked.ensures
-    ∙ times_x_is a.m a.p f.degree a.x (omega (arith, f.two)) c.requires.1
+    ∙ times_x_is a.self.degree a.self.polynomial f.degree a.x (omega (arith, f.two)) c.requires

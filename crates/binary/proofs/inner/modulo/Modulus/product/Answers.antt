@@ -6,8 +6,8 @@ use Rattle.binary.proofs.Xor.{is_xor, zero_xor, xor-zero, xor_assoc}
 use Rattle.binary.specs.Product.{product, times_x}
 use Rattle.binary.proofs.Product.{product-zero}
 use Rattle.binary.proofs.Modulus.{times_x_lt, product-digit}
-use Rattle.binary.proofs.inner.modulo.product.Invariants.{Summed}
-use Rattle.binary.proofs.inner.modulo.product.Goals as goal
+use Rattle.binary.proofs.inner.modulo.Modulus.product.Invariants.{Summed}
+use Rattle.binary.proofs.inner.modulo.Modulus.product.Goals as goal
 
 start : (m p a b : ℕ) → a < 2 ^ m → b < 2 ^ m → Summed m p (product p a b) 0 a b 0
 start m p a b h l =
@@ -34,20 +34,20 @@ end m p w sum x y k l s =
     sym (xor-zero sum) ∙ ap (λ (v : ℕ). sum ⊕ v) (sym (ap (product p x) z ∙ product-zero p x)) ∙ s.whole
 
 pub loop-k-init : goal.loop-k-init
-loop-k-init c = start c.args.m c.args.p c.args.a c.args.b c.requires.1 c.requires.2
+loop-k-init c = let a = c.args in start a.self.degree a.self.polynomial a.a a.b c.requires.0 c.requires.1
 
 pub doubled-x-requires : goal.doubled-x-requires
-doubled-x-requires c = (c.requires.0, c.loop-k.invariant.first)
+doubled-x-requires c = c.loop-k.invariant.first
 
 pub loop-k-preserved : goal.loop-k-preserved
 loop-k-preserved c =
     let a = c.args in
     let l = c.loop-k in
-    turn a.m a.p (product a.p a.a a.b) l.sum l.x l.y l.k _ _ c.requires.0.degree (omega arith) l.invariant
+    turn a.self.degree a.self.polynomial (product a.self.polynomial a.a a.b) l.sum l.x l.y l.k _ _ a.self.is_modulus.degree (omega arith) l.invariant
     c.picked-sum.ensures c.doubled-x.ensures
 
 pub returns : goal.returns
 returns c =
     let a = c.args in
     let l = c.loop-k in
-    end a.m a.p (product a.p a.a a.b) l.sum l.x l.y l.k (omega arith) l.invariant
+    end a.self.degree a.self.polynomial (product a.self.polynomial a.a a.b) l.sum l.x l.y l.k (omega arith) l.invariant

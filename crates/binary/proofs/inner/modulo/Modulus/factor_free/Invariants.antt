@@ -3,7 +3,7 @@ use Rattle.std.proofs.Common.{◌≡◌, ℕ, ◌+◌, ◌-◌, ◌/◌, ◌%◌
 use Rattle.binary.specs.Remainder.{remainder}
 use Rattle.binary.specs.Product.{Modulus}
 use Rattle.binary.specs.Block.{block}
-use Rattle.binary.proofs.inner.factor.factor_free.Given as goal
+use Rattle.binary.proofs.inner.modulo.Modulus.factor_free.Given as goal
 
 -- the divisors from `first` on are next
 pub record Tried (m p limit first : ℕ) (divisors : List ℕ) : Type 0 where
@@ -15,7 +15,7 @@ pub record Tried (m p limit first : ℕ) (divisors : List ℕ) : Type 0 where
   pub none : (j : ℕ) → j < first → 2 ≤ j → j < limit → remainder p j ≢ 0
 
 abbrev pub invariant-loop-first : goal.invariant-loop-first
-invariant-loop-first l = Tried l.m l.p l.limit l.first l.divisors
+invariant-loop-first l = Tried l.self.degree l.self.polynomial l.limit l.first l.divisors
 
 abbrev pub decreases-loop-first : goal.decreases-loop-first
 decreases-loop-first l = l.limit - l.first
