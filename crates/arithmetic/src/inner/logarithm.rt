@@ -1,38 +1,34 @@
 // Logarithm numbers, by walking through the powers of x: no table is kept, and none that x does not reach is missed or invented.
 ghost use Rattle.std.specs.Prelude.{◌≡◌, ◌^◌, ◌<◌};
-ghost use Rattle.binary.specs.Product.{Modulus};
-ghost use Rattle.arithmetic.specs.Modulus.{FieldModulus};
 ghost use Rattle.arithmetic.specs.Number.{number_of, element_of};
 
-use crate::inner::power::raised;
+use crate::inner::field::Field;
 use binary::inner::digit::power_of_two;
-use binary::inner::modulo::doubled;
 
-// One more than the first exponent e with x^e = a, and 0 where there is none.
-pub fn number(p: u32, m: u32, a: u32) -> u32
-    requires { Modulus m p × (a < 2 ^ m) }
-    ensures { result ≡ number_of m p a }
-{
-    let order = power_of_two(m) - 1;
-    let mut x: u32 = 1;
-    let mut e: u32 = 0;
-    while e < order {
-        if x == a {
-            return e + 1;
+impl Field {
+    // One more than the first exponent e with x^e = a, and 0 where there is none.
+    pub fn number(self, a: u32) -> u32
+        requires { a < 2 ^ self.degree }
+        ensures { result ≡ number_of self.degree self.polynomial a }
+    {
+        let order = power_of_two(self.degree) - 1;
+        let mut x: u32 = 1;
+        for e in 0..order {
+            if x == a {
+                return e + 1;
+            }
+            x = self.doubled(x);
         }
-        x = doubled(p, m, x);
-        e += 1;
+        0
     }
-    0
-}
 
-// And back: 0 for the number 0, else x to the power n - 1.
-pub fn element(p: u32, m: u32, n: u32) -> u32
-    requires { FieldModulus m p }
-    ensures { result ≡ element_of p n }
-{
-    if n == 0 {
-        return 0;
+    // And back: 0 for the number 0, else x to the power n - 1.
+    pub fn element(self, n: u32) -> u32
+        ensures { result ≡ element_of self.polynomial n }
+    {
+        if n == 0 {
+            return 0;
+        }
+        self.raised(2, n - 1)
     }
-    raised(p, m, 2, n - 1)
 }

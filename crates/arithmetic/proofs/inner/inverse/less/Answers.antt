@@ -1,11 +1,13 @@
 -- `less` meets its contract. Assumes nothing.
-use mathlib.Core.Path.{sym}
-use native.Mathlib.Omega.{arith}
-use Rattle.arithmetic.proofs.Choice.{less_one, less_zero}
+use Rattle.std.proofs.Common.{◌≡◌, ℕ, ◌<◌, Bool, true, false, ltb, refl, arith}
+use mir.Val.{bool_byte}
+use Rattle.arithmetic.specs.Choice.{less_digit}
 use Rattle.arithmetic.proofs.inner.inverse.less.Goals as goal
 
-pub returns-then-x-y : goal.returns-then-x-y
-returns-then-x-y c = (sym (less_one c.args.x c.args.y (omega arith)), omega arith)
+digit : (b : Bool) → (bool_byte b ≡ elim b [ true ↦ 1 | false ↦ 0 ]) × (bool_byte b < 2)
+digit true = (refl, omega arith)
+digit false = (refl, omega arith)
 
 pub returns : goal.returns
-returns c = (sym (less_zero c.args.x c.args.y (omega arith)), omega arith)
+unfolding less_digit
+returns c = digit (ltb c.args.x c.args.y)

@@ -5,7 +5,7 @@ use native.Mathlib.Omega.{arith}
 use lib.Pow.{pow_mono}
 use Rattle.galois.specs.Power.{power}
 use Rattle.arithmetic.specs.Number.{element_of}
-use Rattle.arithmetic.proofs.inner.logarithm.element.Goals as goal
+use Rattle.arithmetic.proofs.inner.field.Field.element.Goals as goal
 
 none : (p n : ℕ) → n ≡ 0 → 0 ≡ element_of p n
 unfolding element_of
@@ -17,10 +17,10 @@ some p zero h = absurd (h refl)
 some p (suc n) h = let e : suc n - 1 ≡ n = omega arith in ap (power p 2) e
 
 pub returns-then-n-eq0 : goal.returns-then-n-eq0
-returns-then-n-eq0 c = none c.args.p c.args.n c.if-n-eq0.true
+returns-then-n-eq0 c = none c.args.self.polynomial c.args.n c.if-n-eq0.true
 
 pub raised-requires : goal.raised-requires
-raised-requires c = let w = pow_mono c.requires.modulus.two in (c.requires, omega arith)
+raised-requires c = let w = pow_mono c.args.self.is_field.modulus.two in omega arith
 
 pub returns : goal.returns
-returns c = c.raised.ensures ∙ some c.args.p c.args.n c.if-n-eq0.false
+returns c = c.raised.ensures ∙ some c.args.self.polynomial c.args.n c.if-n-eq0.false

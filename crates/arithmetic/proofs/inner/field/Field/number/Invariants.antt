@@ -1,10 +1,10 @@
 -- `number` meets its contract. Assumes nothing.
 use Prim.Native.Nat.{◌-◌}
 use Rattle.arithmetic.proofs.Number.{Tried}
-use Rattle.arithmetic.proofs.inner.logarithm.number.Given as goal
+use Rattle.arithmetic.proofs.inner.field.Field.number.Given as goal
 
 abbrev pub invariant-loop-e : goal.invariant-loop-e
-invariant-loop-e l = Tried l.m l.p l.a l.x l.e
+invariant-loop-e l = Tried l.self.degree l.self.polynomial l.a l.x l.e
 
 abbrev pub decreases-loop-e : goal.decreases-loop-e
 decreases-loop-e l = l.order - l.e

@@ -6,7 +6,7 @@ use native.Mathlib.Omega.{arith}
 use Rattle.binary.proofs.Xor.{exp_lt}
 use Rattle.arithmetic.specs.Choice.{chosen_of, less_digit}
 use Rattle.arithmetic.proofs.Steps.{Head, Ordered, order, steps_start, steps_end, step_le, steps_turn, steps_less}
-use Rattle.arithmetic.proofs.inner.inverse.inverse.Goals as goal
+use Rattle.arithmetic.proofs.inner.field.Field.inverse.Goals as goal
 
 ordered : (m p a u v g h d hi lo ab be : ℕ) → Head m p a u v g h → u ≢ 1 → d ≡ less_digit u v
     → hi ≡ chosen_of d u v → lo ≡ chosen_of d v u → ab ≡ chosen_of d g h → be ≡ chosen_of d h g → Ordered m p a hi lo ab be
@@ -20,7 +20,7 @@ sum u v d hi lo e1 e2 = ap₂ ◌+◌ e1 e2 ∙ by d
     by (suc d) = omega arith
 
 pub loop-u-init : goal.loop-u-init
-loop-u-init c = steps_start c.args.m c.args.p c.args.a c.requires.0.field c.requires.1 c.requires.2
+loop-u-init c = steps_start c.args.self.degree c.args.self.polynomial c.args.a c.args.self.is_field.field c.requires.0 c.requires.1
 
 pub chosen-high-requires : goal.chosen-high-requires
 chosen-high-requires c = c.less-swap.ensures.1
@@ -36,10 +36,10 @@ chosen-below-requires c = c.less-swap.ensures.1
 
 -- after the four choices the larger one is first
 ordered_at : (c : goal.After-chosen-below)
-    → Ordered c.args.m c.args.p c.args.a c.chosen-high.result c.chosen-low.result c.chosen-above.result c.chosen-below.result
+    → Ordered c.args.self.degree c.args.self.polynomial c.args.a c.chosen-high.result c.chosen-low.result c.chosen-above.result c.chosen-below.result
 ordered_at c =
     let l = c.loop-u in
-    ordered c.args.m c.args.p c.args.a l.u l.v l.g l.h c.less-swap.result _ _ _ _ l.invariant c.loop-u-test.true c.less-swap.ensures.0
+    ordered c.args.self.degree c.args.self.polynomial c.args.a l.u l.v l.g l.h c.less-swap.result _ _ _ _ l.invariant c.loop-u-test.true c.less-swap.ensures.0
     c.chosen-high.ensures c.chosen-low.ensures c.chosen-above.ensures c.chosen-below.ensures
 
 pub degree-requires : goal.degree-requires
@@ -55,7 +55,7 @@ degree-requires-in-loop-u c =
 pub overflow_sub-j : goal.overflow_sub-j
 overflow_sub-j c =
     let O = ordered_at c.before.before in
-    step_le c.args.m c.args.p c.args.a c.requires.0.field _ _ _ _ c.degree.result c.degree-in-loop-u.result O
+    step_le c.args.self.degree c.args.self.polynomial c.args.a c.args.self.is_field.field _ _ _ _ c.degree.result c.degree-in-loop-u.result O
     c.degree.ensures c.degree-in-loop-u.ensures
 
 pub overflow_shl-u : goal.overflow_shl-u
@@ -72,18 +72,18 @@ pub loop-u-smaller : goal.loop-u-smaller
 loop-u-smaller c =
     let l = c.loop-u in
     let O = ordered_at c.before.before in
-    let w = steps_less c.args.m c.args.p c.args.a c.requires.0.field _ _ _ _ c.degree.result c.degree-in-loop-u.result O
-    c.degree.ensures c.degree-in-loop-u.ensures c.requires.0.modulus.fits in
+    let w = steps_less c.args.self.degree c.args.self.polynomial c.args.a c.args.self.is_field.field _ _ _ _ c.degree.result c.degree-in-loop-u.result O
+    c.degree.ensures c.degree-in-loop-u.ensures c.args.self.is_field.modulus.fits in
     omega (arith, w, sum l.u l.v c.less-swap.result _ _ c.chosen-high.ensures c.chosen-low.ensures)
 
 pub loop-u-preserved : goal.loop-u-preserved
 loop-u-preserved c =
     let O = ordered_at c.before.before in
-    steps_turn c.args.m c.args.p c.args.a c.requires.0.field _ _ _ _ c.degree.result c.degree-in-loop-u.result O
-    c.degree.ensures c.degree-in-loop-u.ensures c.requires.0.modulus.fits
+    steps_turn c.args.self.degree c.args.self.polynomial c.args.a c.args.self.is_field.field _ _ _ _ c.degree.result c.degree-in-loop-u.result O
+    c.degree.ensures c.degree-in-loop-u.ensures c.args.self.is_field.modulus.fits
 
 pub returns : goal.returns
 returns c =
     let a = c.args in
     let l = c.loop-u in
-    steps_end a.m a.p a.a c.requires.0.field l.u l.v l.g l.h l.invariant c.loop-u-test.false
+    steps_end a.self.degree a.self.polynomial a.a c.args.self.is_field.field l.u l.v l.g l.h l.invariant c.loop-u-test.false

@@ -1,10 +1,10 @@
 -- `inverse` meets its contract. Assumes nothing.
 use Prim.Native.Nat.{◌+◌}
 use Rattle.arithmetic.proofs.Steps.{Head}
-use Rattle.arithmetic.proofs.inner.inverse.inverse.Given as goal
+use Rattle.arithmetic.proofs.inner.field.Field.inverse.Given as goal
 
 abbrev pub invariant-loop-u : goal.invariant-loop-u
-invariant-loop-u l = Head l.m l.p l.a l.u l.v l.g l.h
+invariant-loop-u l = Head l.fn.self.degree l.fn.self.polynomial l.a l.u l.v l.g l.h
 
 abbrev pub decreases-loop-u : goal.decreases-loop-u
 decreases-loop-u l = l.u + l.v

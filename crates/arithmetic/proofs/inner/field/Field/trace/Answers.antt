@@ -11,8 +11,8 @@ use Rattle.galois.specs.Field.{Field}
 use Rattle.galois.specs.Power.{squares}
 use Rattle.galois.proofs.Power.{squares_lt}
 use Rattle.galois.specs.Trace.{part_trace, trace}
-use Rattle.arithmetic.proofs.inner.power.trace.Invariants.{Traced}
-use Rattle.arithmetic.proofs.inner.power.trace.Goals as goal
+use Rattle.arithmetic.proofs.inner.field.Field.trace.Invariants.{Traced}
+use Rattle.arithmetic.proofs.inner.field.Field.trace.Goals as goal
 
 start : (m p c : ℕ) → c < 2 ^ m → Traced m p c 0 c 0
 unfolding squares part_trace
@@ -35,17 +35,17 @@ end m p c sum x k l S =
     S.so_far ∙ ap (λ (j : ℕ). part_trace p j c) q
 
 pub loop-k-init : goal.loop-k-init
-loop-k-init c = start c.args.m c.args.p c.args.c c.requires.1
+loop-k-init c = start c.args.self.degree c.args.self.polynomial c.args.c c.requires
 
 pub loop-k-preserved : goal.loop-k-preserved
 loop-k-preserved c =
     let a = c.args in
     let q = c.requires in
     let l = c.loop-k in
-    turn a.m a.p a.c l.sum l.x l.k _ q.0.field q.1 (omega arith) l.invariant c.product-x.ensures
+    turn a.self.degree a.self.polynomial a.c l.sum l.x l.k _ a.self.is_field.field q (omega arith) l.invariant c.product-x.ensures
 
 pub returns : goal.returns
 returns c =
     let a = c.args in
     let l = c.loop-k in
-    end a.m a.p a.c l.sum l.x l.k (omega arith) l.invariant
+    end a.self.degree a.self.polynomial a.c l.sum l.x l.k (omega arith) l.invariant

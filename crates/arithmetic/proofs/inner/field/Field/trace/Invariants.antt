@@ -3,7 +3,7 @@ use mathlib.Core.Path.{◌≡◌}
 use Prim.Native.Nat.{ℕ, ◌-◌, ◌≤◌, ◌<◌, ◌^◌}
 use Rattle.galois.specs.Power.{squares}
 use Rattle.galois.specs.Trace.{part_trace}
-use Rattle.arithmetic.proofs.inner.power.trace.Given as goal
+use Rattle.arithmetic.proofs.inner.field.Field.trace.Given as goal
 
 pub record Traced (m p c sum x k : ℕ) : Type 0 where
   pub turns : k ≤ m
@@ -12,7 +12,7 @@ pub record Traced (m p c sum x k : ℕ) : Type 0 where
   pub so_far : sum ≡ part_trace p k c
 
 abbrev pub invariant-loop-k : goal.invariant-loop-k
-invariant-loop-k l = Traced l.m l.p l.c l.sum l.x l.k
+invariant-loop-k l = Traced l.self.degree l.self.polynomial l.c l.sum l.x l.k
 
 abbrev pub decreases-loop-k : goal.decreases-loop-k
-decreases-loop-k l = l.m - l.k
+decreases-loop-k l = l.self.degree - l.k

@@ -7,7 +7,7 @@ use Rattle.binary.proofs.Product.{product_one}
 use Rattle.galois.specs.Field.{Field}
 use Rattle.galois.specs.Power.{power}
 use Rattle.galois.proofs.Power.{power_one}
-use Rattle.arithmetic.proofs.inner.power.times_digit.Goals as goal
+use Rattle.arithmetic.proofs.inner.field.Field.times_digit.Goals as goal
 
 none : (m p r x d : ℕ) → Field m p → r < 2 ^ m → d ≡ 0 → r ≡ product p r (power p x d)
 unfolding power
@@ -20,10 +20,10 @@ pub returns-then-digit-eq0 : goal.returns-then-digit-eq0
 returns-then-digit-eq0 c =
     let a = c.args in
     let q = c.requires in
-    none a.m a.p a.res a.x a.digit q.0.field q.2 c.if-digit-eq0.true
+    none a.self.degree a.self.polynomial a.so_far a.x a.digit a.self.is_field.field q.1 c.if-digit-eq0.true
 
 pub returns : goal.returns
 returns c =
     let a = c.args in
     let q = c.requires in
-    once a.m a.p a.res a.x a.digit _ q.0.field q.3 (omega arith) c.product.ensures
+    once a.self.degree a.self.polynomial a.so_far a.x a.digit _ a.self.is_field.field q.2 (omega arith) c.product.ensures

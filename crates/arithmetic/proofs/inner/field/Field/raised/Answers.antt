@@ -9,8 +9,8 @@ use Rattle.galois.proofs.Field.{one_lt}
 use Rattle.galois.specs.Power.{power}
 use Rattle.galois.proofs.Power.{power_lt}
 use Rattle.arithmetic.proofs.Power.{power-digit}
-use Rattle.arithmetic.proofs.inner.power.raised.Invariants.{Raised}
-use Rattle.arithmetic.proofs.inner.power.raised.Goals as goal
+use Rattle.arithmetic.proofs.inner.field.Field.raised.Invariants.{Raised}
+use Rattle.arithmetic.proofs.inner.field.Field.raised.Goals as goal
 
 module _ (m p : ℕ) (F : Field m p) where
   start : (a n : ℕ) → a < 2 ^ m → Raised m p (power p a n) 1 a n
@@ -34,10 +34,10 @@ module _ (m p : ℕ) (F : Field m p) where
       sym (ap (λ (k : ℕ). product p result (power p base k)) e ∙ product_one m p F.irr.degree result S.done) ∙ S.whole
 
 pub loop-left-init : goal.loop-left-init
-loop-left-init c = start c.args.m c.args.p c.requires.0.field c.args.a c.args.n c.requires.1
+loop-left-init c = start c.args.self.degree c.args.self.polynomial c.args.self.is_field.field c.args.a c.args.n c.requires
 
-pub times_digit-result-requires : goal.times_digit-result-requires
-times_digit-result-requires c = (c.requires.0, omega arith, c.loop-left.invariant.done, c.loop-left.invariant.small)
+pub times_digit-so_far-requires : goal.times_digit-so_far-requires
+times_digit-so_far-requires c = (omega arith, c.loop-left.invariant.done, c.loop-left.invariant.small)
 
 pub loop-left-smaller : goal.loop-left-smaller
 loop-left-smaller c = omega arith
@@ -46,11 +46,11 @@ pub loop-left-preserved : goal.loop-left-preserved
 loop-left-preserved c =
     let a = c.args in
     let l = c.loop-left in
-    turn a.m a.p c.requires.0.field (power a.p a.a a.n) l.result l.base l.left _ _ l.invariant
-    c.times_digit-result.ensures c.product-base.ensures
+    turn a.self.degree a.self.polynomial c.args.self.is_field.field (power a.self.polynomial a.a a.n) l.so_far l.base l.left _ _ l.invariant
+    c.times_digit-so_far.ensures c.product-base.ensures
 
 pub returns : goal.returns
 returns c =
     let a = c.args in
     let l = c.loop-left in
-    end a.m a.p c.requires.0.field (power a.p a.a a.n) l.result l.base l.left c.loop-left-test.false l.invariant
+    end a.self.degree a.self.polynomial c.args.self.is_field.field (power a.self.polynomial a.a a.n) l.so_far l.base l.left c.loop-left-test.false l.invariant
