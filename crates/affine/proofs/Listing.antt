@@ -10,7 +10,7 @@ use lib.Dec.{ltb}
 use lib.ListN.{length, drop}
 use Rattle.binary.specs.Factor.{degree_of}
 use Rattle.field.specs.Refusal.{◌⇒◌, refusal, turned_down, gives}
-use Rattle.field.proofs.Refusal.{then_kept, then_applies, then_passes, refused_by, answered_by}
+use Rattle.field.proofs.Tests.{then_kept, then_applies, then_passes, refused_by, answered_by}
 use Rattle.affine.specs.Equation.{all_roots}
 use Rattle.affine.specs.Calls.{equation_tests, listing_tests, listing_outcome, listing_after}
 

@@ -9,7 +9,7 @@ use Rattle.binary.specs.Factor.{degree_of}
 use Rattle.galois.specs.Polynomial.{Coeffs}
 use Rattle.field.specs.Accepted.{Accepted}
 use Rattle.field.specs.Refusal.{refusal}
-use Rattle.field.proofs.Refusal.{passes, accepted}
+use Rattle.field.proofs.Tests.{passes, accepted}
 use Rattle.field.proofs.Coefficients.{count_some, count_few, coefficients_small}
 use Rattle.affine.specs.Equation.{Ready}
 use Rattle.affine.specs.Calls.{equation_tests}

@@ -16,7 +16,7 @@ use Rattle.field.specs.Limits.{smallest_degree, largest_degree, polynomial_floor
 use Rattle.field.specs.Refusal.{turned_down, gives, answer_by, refusal, polynomial_tests}
 use Rattle.field.specs.House.{house_entry}
 use Rattle.field.specs.Calls.{accept_outcome}
-use Rattle.field.proofs.Refusal.{accepted, accepted_range, in_range, has_factor_lem, degree_of_lem, two_le}
+use Rattle.field.proofs.Tests.{accepted, accepted_range, in_range, has_factor_lem, degree_of_lem, two_le}
 use Rattle.field.proofs.HouseTable.{house_irreducible}
 
 -- p in range, and no polynomial of degree 1 to m - 1 divides it

@@ -14,7 +14,7 @@ use Rattle.binary.specs.Factor.{degree_of}
 use Rattle.galois.specs.Polynomial.{Coeffs}
 use Rattle.galois.proofs.Polynomial.{coeff_at, coeffs_of}
 use Rattle.field.specs.Refusal.{too_large, any_too_large, wrong_count}
-use Rattle.field.proofs.Refusal.{element_small}
+use Rattle.field.proofs.Tests.{element_small}
 
 pub coefficients_small : (p : ℕ) (cs : List ℕ) → any_too_large p cs ≡ false → Coeffs (degree_of p) cs
 unfolding any_too_large

@@ -1,4 +1,5 @@
-pub mod Refusal
+pub mod Tests
+mod Answered
 pub mod Coefficients
 pub mod Ready
 pub mod HouseTable

@@ -5,7 +5,7 @@ use Rattle.binary.specs.Factor.{degree_of}
 use Rattle.arithmetic.specs.Modulus.{FieldModulus}
 use Rattle.field.specs.Accepted.{Accepted}
 use Rattle.field.specs.Refusal.{refusal, polynomial_tests, element_tests, elements_tests}
-use Rattle.field.proofs.Refusal.{accepted, element_passed, elements_passed}
+use Rattle.field.proofs.Tests.{accepted, element_passed, elements_passed}
 
 module _ (m p : ℕ) (d : m ≡ degree_of p) where
   pub ready : Accepted p → FieldModulus m p

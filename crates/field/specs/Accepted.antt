@@ -1,4 +1,4 @@
--- What acceptance shows of a field polynomial (`accepted` of proofs/Refusal). Assumes nothing.
+-- What acceptance shows of a field polynomial (`accepted` of proofs/Tests). Assumes nothing.
 use Rattle.std.specs.Prelude.{ℕ, ◌≤◌}
 use Rattle.binary.specs.Factor.{degree_of}
 use Rattle.arithmetic.specs.Modulus.{FieldModulus}

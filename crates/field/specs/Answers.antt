@@ -1,33 +1,42 @@
--- The number and the value that each case of each answer stands for (01, "Numbers a call is turned down by"). Assumes nothing.
-use Rattle.std.specs.Prelude.{ℕ}
+-- What an answer says: the number that it was turned down by, or its value ("Numbers a call is turned down by"). Assumes nothing.
+use Rattle.std.specs.Prelude.{ℕ, Result, Ok, Err}
+use Rattle.binary.specs.Factor.{degree_of}
+use Rattle.arithmetic.specs.declared.inner.field.Field.{Field}
 use Rattle.field.specs.Refusal.{Outcome, turned_down, gives}
-use Rattle.field.specs.declared.DegreeAnswer.{DegreeAnswer}
-use Rattle.field.specs.declared.DegreeAnswer.TheVariants as degree
-use Rattle.field.specs.declared.ElementAnswer.{ElementAnswer}
-use Rattle.field.specs.declared.ElementAnswer.TheVariants as element
-use Rattle.field.specs.declared.TraceAnswer.{TraceAnswer}
-use Rattle.field.specs.declared.TraceAnswer.TheVariants as trace
-use Rattle.field.specs.declared.NumberAnswer.{NumberAnswer}
-use Rattle.field.specs.declared.NumberAnswer.TheVariants as number
-use Rattle.field.specs.declared.PolynomialAnswer.{PolynomialAnswer}
-use Rattle.field.specs.declared.PolynomialAnswer.TheVariants as polynomial
+use Rattle.field.specs.declared.refused.Refusal.{Refusal}
+use Rattle.field.specs.declared.refused.Refusal.TheVariants.{OutOfRange, HasFactor, WrongCount, TooLarge, AllZero, DivisionByZero, NoPlace}
+use Rattle.field.specs.declared.Element.{Element}
+use Rattle.field.specs.declared.LogNumber.{LogNumber}
 
-abbrev pub of_degree : DegreeAnswer → Outcome ℕ
-of_degree (degree.TurnedDown n) = turned_down n
-of_degree (degree.Degree m) = gives m
+abbrev pub number_of : Refusal → ℕ
+number_of OutOfRange = 1
+number_of HasFactor = 2
+number_of WrongCount = 3
+number_of TooLarge = 4
+number_of AllZero = 5
+number_of DivisionByZero = 6
+number_of NoPlace = 7
 
-abbrev pub of_element : ElementAnswer → Outcome ℕ
-of_element (element.TurnedDown n) = turned_down n
-of_element (element.Found a) = gives a.0
+-- what is read off a value, or the number
+abbrev pub of_answer : {A B : Type 0} → (A → B) → Result A Refusal → Outcome B
+of_answer read (Ok a) = gives (read a)
+of_answer read (Err r) = turned_down (number_of r)
 
-abbrev pub of_trace : TraceAnswer → Outcome ℕ
-of_trace (trace.TurnedDown n) = turned_down n
-of_trace (trace.Trace t) = gives t
+abbrev pub of_value : Result ℕ Refusal → Outcome ℕ
+of_value = of_answer (λ n. n)
 
-abbrev pub of_number : NumberAnswer → Outcome ℕ
-of_number (number.TurnedDown n) = turned_down n
-of_number (number.Found n) = gives n.0
+abbrev pub of_element : Result Element Refusal → Outcome ℕ
+of_element = of_answer (λ a. a.0)
 
-abbrev pub of_polynomial : PolynomialAnswer → Outcome ℕ
-of_polynomial (polynomial.TurnedDown n) = turned_down n
-of_polynomial (polynomial.Polynomial p) = gives p
+abbrev pub of_number : Result LogNumber Refusal → Outcome ℕ
+of_number = of_answer (λ n. n.0)
+
+abbrev pub of_nothing : Result (Unit {0}) Refusal → Outcome (Unit {0})
+of_nothing = of_answer (λ u. u)
+
+-- a field by its polynomial and its degree
+abbrev pub of_field : Result Field Refusal → Outcome (ℕ × ℕ)
+of_field = of_answer (λ f. (f.polynomial, f.degree))
+
+abbrev pub field_of : ℕ → ℕ × ℕ
+field_of p = (p, degree_of p)

@@ -1,14 +1,23 @@
-// The numbers a call is turned down by (01), "first that applies wins".
-pub const OUT_OF_RANGE: u32 = 1;
+// Why a call is turned down. The tests of a call stand in the order of the numbers: the first that applies wins.
+ghost use Rattle.std.specs.Prelude.{◌≡◌};
+ghost use Rattle.field.specs.Answers.{number_of};
 
-pub const HAS_FACTOR: u32 = 2;
+#[derive(Clone, Copy, Debug, PartialEq, Eq)]
+pub enum Refusal {
+    OutOfRange = 1,
+    HasFactor = 2,
+    WrongCount = 3,
+    TooLarge = 4,
+    AllZero = 5,
+    DivisionByZero = 6,
+    NoPlace = 7,
+}
 
-pub const WRONG_COUNT: u32 = 3;
-
-pub const TOO_LARGE: u32 = 4;
-
-pub const ALL_ZERO: u32 = 5;
-
-pub const DIVISION_BY_ZERO: u32 = 6;
-
-pub const NO_PLACE: u32 = 7;
+impl Refusal {
+    // Its number in the table.
+    pub fn number(self) -> u32
+        ensures { result ≡ number_of self }
+    {
+        self as u32
+    }
+}

@@ -11,7 +11,7 @@ use lib.ListN.{length, drop}
 use Rattle.algebra.specs.Search.{some_below}
 use Rattle.binary.specs.Factor.{degree_of}
 use Rattle.field.specs.Refusal.{◌⇒◌, refusal, Outcome, turned_down, gives, answer_by, outcome}
-use Rattle.field.proofs.Refusal.{refusal_kept, refusal-append}
+use Rattle.field.proofs.Tests.{refusal_kept, refusal-append}
 use Rattle.affine.specs.Equation.{is_root, all_roots, base_of, directions_of}
 use Rattle.affine.specs.Calls.{equation_tests, solution, refused_answer, solve_answer, listing_tests, listing_outcome, listing_after}
 use Rattle.firmware.specs.Lent.{returned, after, Refuses}

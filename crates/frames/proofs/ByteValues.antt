@@ -17,7 +17,7 @@ use Rattle.galois.specs.Roots.{roots_of}
 use Rattle.galois.specs.Multiplicity.{multiplicity}
 use Rattle.field.specs.Accepted.{Accepted}
 use Rattle.field.specs.Refusal.{refusal, answer_by}
-use Rattle.field.proofs.Refusal.{refusal-below}
+use Rattle.field.proofs.Tests.{refusal-below}
 use Rattle.affine.specs.Equation.{is_root, base_of, directions_of}
 use Rattle.affine.specs.Calls as affine
 use Rattle.affine.proofs.Tests.{equation_ready, ready_accepted}

@@ -11,7 +11,7 @@ use lib.ListN.{length, take}
 use lib.Seq.{take_at}
 use Rattle.algebra.specs.Lists.{padded}
 use Rattle.field.specs.Refusal.{refusal}
-use Rattle.field.proofs.Refusal.{refused_by, answered_by}
+use Rattle.field.proofs.Tests.{refused_by, answered_by}
 use Rattle.affine.specs.Calls as affine
 use Rattle.roots.specs.Calls as roots
 use Rattle.frames.specs.Limits.{most_counted}

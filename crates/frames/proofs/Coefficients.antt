@@ -12,7 +12,7 @@ use Rattle.algebra.specs.Lists.{count_up, padded}
 use Rattle.algebra.proofs.CountUp.{count_up-length, map-count_up}
 use Rattle.algebra.proofs.Places.{padded-length}
 use Rattle.field.specs.Refusal.{refusal}
-use Rattle.field.proofs.Refusal.{passes}
+use Rattle.field.proofs.Tests.{passes}
 use Rattle.frames.specs.Limits.{most_counted}
 use Rattle.frames.specs.Frame.{count_of, coefficient_at, coefficients_of, disagrees, line_tests, WellFormed}
 

@@ -10,7 +10,7 @@ use lib.Dec.{eqb}
 use lib.ListN.{length, take, drop, replicate, length-append, length-replicate}
 use lib.Seq.{sets, sets-eq, length-sets, length-take-le, take-append-le, take_all, take_at}
 use Rattle.algebra.specs.Lists.{padded}
-use Rattle.field.proofs.Refusal.{refused_by}
+use Rattle.field.proofs.Tests.{refused_by}
 use Rattle.frames.specs.Limits.{most_digits}
 use Rattle.frames.specs.Frame.{kind_of, polynomial_of, coefficients_of, line_tests}
 use Rattle.frames.specs.Answer.{called_bytes, answer_bytes}

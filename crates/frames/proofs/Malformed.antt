@@ -10,7 +10,7 @@ use borrow.Author.Tests.{lt-ltb, le-ltb, eq-eqb, ne_eqb}
 use lib.Dec.{eqb}
 use lib.ListN.{length}
 use Rattle.field.specs.Refusal.{Test, ◌⇒◌, refusal}
-use Rattle.field.proofs.Refusal.{none_applies}
+use Rattle.field.proofs.Tests.{none_applies}
 use Rattle.frames.specs.Limits.{most_digits}
 use Rattle.frames.specs.Frame.{kind_of, another_character, another_kind, disagrees, line_tests}
 

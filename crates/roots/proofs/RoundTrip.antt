@@ -18,7 +18,7 @@ use Rattle.galois.proofs.Build.{build-length, build_coeffs, build_nonzero}
 use Rattle.galois.proofs.BuildRoots.{roots_back, multiplicities_back, build-product, build_order}
 use Rattle.galois.proofs.Padding.{value_pad, coeffs_pad, zero_pad}
 use Rattle.field.specs.Refusal.{◌⇒◌, refusal, gives, answer_by, any_too_large, polynomial_tests}
-use Rattle.field.proofs.Refusal.{passes, answered_by, none_applies, same_answer}
+use Rattle.field.proofs.Tests.{passes, answered_by, none_applies, same_answer}
 use Rattle.field.proofs.Coefficients.{count_right, coefficients_small, coefficients_pass}
 use Rattle.roots.specs.Limits.{most_coefficients, most_roots}
 use Rattle.roots.specs.Calls.{equation_tests, build_tests, solved, refused_answer, solve_answer, Built, built, refused_built, build_answer}

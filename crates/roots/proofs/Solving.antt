@@ -8,7 +8,7 @@ use Rattle.binary.specs.Factor.{degree_of}
 use Rattle.galois.specs.Roots.{roots_of}
 use Rattle.galois.specs.Multiplicity.{multiplicity}
 use Rattle.field.specs.Refusal.{refusal, gives}
-use Rattle.field.proofs.Refusal.{answered_by}
+use Rattle.field.proofs.Tests.{answered_by}
 use Rattle.roots.specs.Limits.{most_roots, most_coefficients}
 use Rattle.roots.specs.Calls.{equation_tests, refused_answer, solved, solve_answer}
 use Rattle.roots.specs.Equation.{Ready}

@@ -18,7 +18,7 @@ use Rattle.galois.specs.Roots.{roots_of}
 use Rattle.galois.proofs.Padding.{coeffs_pad, zero_pad}
 use Rattle.field.specs.Accepted.{Accepted}
 use Rattle.field.specs.Refusal.{Test, ◌⇒◌, refusal, polynomial_tests, wrong_count, list_tests}
-use Rattle.field.proofs.Refusal.{then_kept, then_applies, then_passes, then_say, passes, accepted}
+use Rattle.field.proofs.Tests.{then_kept, then_applies, then_passes, then_say, passes, accepted}
 use Rattle.field.proofs.Coefficients.{count_some, count_few, coefficients_small}
 use Rattle.field.proofs.Ready.{ready}
 use Rattle.roots.specs.Limits.{most_coefficients, most_roots}

@@ -23,7 +23,7 @@ use Rattle.galois.proofs.Largest.{multiplicity-divides, multiplicity_largest}
 use Rattle.galois.proofs.Degree.{has_degree, total_at_most, roots_at_most}
 use Rattle.field.specs.Refusal.{Test, ◌⇒◌, refusal, answer_by, any_too_large, polynomial_tests, wrong_count}
 use Rattle.field.proofs.Coefficients.{count_right}
-use Rattle.field.proofs.Refusal.{same_answer}
+use Rattle.field.proofs.Tests.{same_answer}
 use Rattle.roots.specs.Limits.{most_coefficients, most_roots}
 use Rattle.roots.specs.Calls.{all_zero, equation_tests, refused_answer, solved, solve_answer}
 use Rattle.roots.proofs.Zeros.{large_pad, zero_test_pad, solved_pad}

@@ -7,7 +7,7 @@ use lib.Dec.{leb}
 use lib.ListN.{length}
 use Rattle.binary.specs.Factor.{degree_of}
 use Rattle.field.specs.Refusal.{◌⇒◌}
-use Rattle.field.proofs.Refusal.{down_first, down_last, given_last}
+use Rattle.field.proofs.Tests.{down_first, down_last, given_last}
 use Rattle.affine.specs.Equation.{all_roots}
 use Rattle.affine.specs.Calls.{equation_tests}
 use Rattle.affine.proofs.Tests.{equation_ready}

@@ -1,6 +1,6 @@
 -- `solve` meets its contract. Assumes nothing.
 use mathlib.Core.Path.{sym, ◌∙◌}
-use Rattle.field.proofs.Refusal.{refused_by, answered_by}
+use Rattle.field.proofs.Tests.{refused_by, answered_by}
 use Rattle.affine.specs.Calls.{equation_tests, refused_answer}
 use Rattle.affine.proofs.Tests.{equation_ready}
 use Rattle.affine.proofs.Found.{answer_is, count_fits}

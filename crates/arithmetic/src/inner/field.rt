@@ -1,6 +1,7 @@
 // The field of an accepted polynomial: everything that is computed in it is a method of it.
-ghost use Rattle.std.specs.Prelude.{◌≡◌, ◌^◌, ◌<◌};
+ghost use Rattle.std.specs.Prelude.{◌≡◌, true, ◌^◌, ◌<◌};
 ghost use Rattle.binary.specs.Product.{product, times_x};
+ghost use Rattle.binary.specs.Factor.{factor_free};
 ghost use Rattle.arithmetic.specs.Modulus.{FieldModulus};
 
 use binary::inner::modulo::Modulus;
@@ -14,6 +15,17 @@ pub struct Field {
 }
 
 impl Field {
+    // The field of a polynomial that has passed the test.
+    pub fn new(modulus: Modulus) -> Self
+        requires { factor_free modulus.degree modulus.polynomial ≡ true }
+        ensures { (result.polynomial ≡ modulus.polynomial) × (result.degree ≡ modulus.degree) }
+    {
+        Field {
+            polynomial: modulus.polynomial,
+            degree: modulus.degree,
+        }
+    }
+
     fn modulus(self) -> Modulus
         ensures { (result.polynomial ≡ self.polynomial) × (result.degree ≡ self.degree) }
     {

@@ -1,25 +1,11 @@
 -- `element_of_number` meets its contract. Assumes nothing.
-use mathlib.Core.Path.{sym, ◌∙◌}
+use Rattle.std.proofs.Common.{ℕ}
+use Rattle.arithmetic.specs.Number.{element_of}
 use Rattle.field.specs.Refusal.{element_tests}
-use Rattle.field.proofs.Refusal.{down, given, element_passed}
-use Rattle.field.proofs.Ready.{element_ready}
+use Rattle.field.proofs.Answered.{given_by}
 use Rattle.field.proofs.element_of_number.Goals as goal
-
-pub returns-then-refused-ne0 : goal.returns-then-refused-ne0
-returns-then-refused-ne0 c = let a = c.args in down _ _ (element_tests a.p a.n.0) c.of_element-refused.ensures c.if-refused-ne0.true
-
-pub degree_of-m-requires : goal.degree_of-m-requires
-degree_of-m-requires c =
-    let a = c.args in
-    (element_passed a.p a.n.0 (sym c.of_element-refused.ensures ∙ c.if-refused-ne0.false)).0
-
-pub element-requires : goal.element-requires
-element-requires c =
-    let a = c.args in
-    (element_ready c.degree_of-m.result a.p c.degree_of-m.ensures a.n.0 _ c.of_element-refused.ensures c.if-refused-ne0.false).0
 
 pub returns : goal.returns
 returns c =
     let a = c.args in
-    given _ _ (element_tests a.p a.n.0) (sym c.of_element-refused.ensures ∙ c.if-refused-ne0.false)
-    c.element.ensures
+    given_by a.p c.in_ok-field.field (element_tests a.p a.n.0) c.in_ok-field.ensures (λ (m p : ℕ). element_of p a.n.0) c.element.ensures

@@ -1,56 +1,60 @@
 -- `power` meets its contract. Assumes nothing.
-use mathlib.Core.Path.{◌≡◌, sym, ap, ◌∙◌}
-use mathlib.Core.Bool.{Bool, true, false, ◌&&◌, false≢true}
-use mathlib.Core.List.{[], ◌∷◌}
-use Prim.Native.Nat.{ℕ, zero, suc, ◌<◌}
-use native.Mathlib.Omega.{arith}
-use lib.Dec.{eqb}
-use lib.IntN.{ℤ, pos}
-use lib.Signed.{lt_z}
+use Rattle.std.proofs.Common.{◌≡◌, ◌≢◌, refl, sym, ◌∙◌, ℕ, zero, suc, ◌<◌, arith, rules, eqb, eq-eqb, ne_eqb, Bool, true, false, ◌&&◌, ℤ, pos}
+use Rattle.std.proofs.lemmas.Bool.{false≢true}
 use mir.Syntax.{w32}
 use mir.Val.{SFits}
 use mir.Facts.{to_z-of_z}
-use borrow.Author.Rules.{rules}
-use Rattle.field.specs.Refusal.{◌⇒◌, element_tests}
+use Rattle.std.specs.Int.Signed.{lt_z}
 use Rattle.arithmetic.specs.Power.{power_of}
-use Rattle.field.proofs.Refusal.{down_first, down_last, given_last, element_passed}
-use Rattle.field.proofs.Ready.{element_ready}
+use Rattle.field.specs.Refusal.{element_tests}
+use Rattle.field.proofs.Answered.{element_in, last_applies, last_passes}
+use Rattle.field.proofs.power.Goals.{Joined-else-a-eq0, else-a-eq0-via-then-a-eq0+else-e-lt0, else-a-eq0-via-else-a-eq0}
 use Rattle.field.proofs.power.Goals as goal
 
--- a negative exponent that was let through has a base that is not 0
-positive : (a : ℕ) (z : ℤ) (b : Bool) → b ≡ (eqb a 0 && lt_z z (pos 0)) → b ≡ false → lt_z z (pos 0) ≡ true → 0 < a
-positive zero z b e f h = absurd (false≢true (sym f ∙ e ∙ h))
-positive (suc a) z b e f h = omega arith
+-- the test of 0 to a negative exponent
+negative : (a : ℕ) (e : ℤ) → a ≡ 0 → lt_z e (pos 0) ≡ true → (eqb a 0 && lt_z e (pos 0)) ≡ true
+negative a e q n = rw (eq-eqb a 0 q, n)
 
-pub returns-then-refused-ne0 : goal.returns-then-refused-ne0
-returns-then-refused-ne0 c =
-    let a = c.args in
-    down_first _ _ (element_tests a.p a.a.0) ((eqb a.a.0 0 && lt_z a.e.0 (pos 0)) ⇒ 6 ∷ []) c.of_element-refused.ensures c.if-refused-ne0.true
+other : (a : ℕ) (e : ℤ) → lt_z e (pos 0) ≡ false → (eqb a 0 && lt_z e (pos 0)) ≡ false
+other a e n = rw n (both (eqb a 0))
+  where
+    both : (b : Bool) → (b && false) ≡ false
+    both true = refl
+    both false = refl
 
-pub returns-then-zero_to_negative : goal.returns-then-zero_to_negative
-returns-then-zero_to_negative c =
+nonzero : (a : ℕ) (e : ℤ) → a ≢ 0 → (eqb a 0 && lt_z e (pos 0)) ≡ false
+nonzero a e q = rw (ne_eqb a 0 q)
+
+pub returns-then-e-lt0 : goal.returns-then-e-lt0
+returns-then-e-lt0 c =
     let a = c.args in
     let f : SFits w32 a.e.0 = search rules in
-    down_last _ _ 6 (eqb a.a.0 0 && lt_z a.e.0 (pos 0)) (element_tests a.p a.a.0) tt c.of_element-refused.ensures
-    c.if-refused-ne0.false (sym (rw (to_z-of_z f) at c.zero_to_negative.ensures) ∙ c.if-zero_to_negative.true) (λ z. omega arith)
+    last_applies a.p c.in_ok-field.field (element_tests a.p a.a.0) c.in_ok-field.ensures tt (eqb a.a.0 0 && lt_z a.e.0 (pos 0)) 6
+    (negative a.a.0 a.e.0 c.if-a-eq0.true (rw (to_z-of_z f) at c.if-e-lt0.true)) (λ z. omega arith) _
 
-pub degree_of-m-requires : goal.degree_of-m-requires
-degree_of-m-requires c =
+-- neither 0 nor to a negative exponent
+passes : (c : Joined-else-a-eq0) → (eqb c.args.a.0 0 && lt_z c.args.e.0 (pos 0)) ≡ false
+passes c =
     let a = c.args in
-    (element_passed a.p a.a.0 (sym c.of_element-refused.ensures ∙ c.if-refused-ne0.false)).0
+    let f : SFits w32 a.e.0 = search rules in
+    elim c.else-a-eq0.branch [
+      | else-a-eq0-via-then-a-eq0+else-e-lt0 w ↦ other a.a.0 a.e.0 (rw (to_z-of_z f) at w.if-e-lt0.false)
+      | else-a-eq0-via-else-a-eq0 w ↦ nonzero a.a.0 a.e.0 w.if-a-eq0.false
+    ]
+
+above : (a : ℕ) (e : ℤ) → (eqb a 0 && lt_z e (pos 0)) ≡ false → lt_z e (pos 0) ≡ true → 0 < a
+above zero e h n = absurd (false≢true (sym h ∙ n))
+above (suc a) e h n = omega arith
 
 pub power-requires : goal.power-requires
 power-requires c =
     let a = c.args in
-    let q = element_ready c.degree_of-m.result a.p c.degree_of-m.ensures a.a.0 _ c.of_element-refused.ensures
-    c.if-refused-ne0.false in
     let f : SFits w32 a.e.0 = search rules in
-    (q.0, q.1, rw (to_z-of_z f) (positive a.a.0 a.e.0 _ (rw (to_z-of_z f) at c.zero_to_negative.ensures) c.if-zero_to_negative.false))
+    (element_in a.p c.in_ok-field.field a.a.0 c.in_ok-field.ensures, λ n. above a.a.0 a.e.0 (passes c.before.before) (rw (to_z-of_z f) at n))
 
 pub returns : goal.returns
 returns c =
     let a = c.args in
     let f : SFits w32 a.e.0 = search rules in
-    given_last _ _ _ 6 (eqb a.a.0 0 && lt_z a.e.0 (pos 0)) (element_tests a.p a.a.0) tt c.of_element-refused.ensures
-    c.if-refused-ne0.false (sym (rw (to_z-of_z f) at c.zero_to_negative.ensures) ∙ c.if-zero_to_negative.false)
-    ((rw (to_z-of_z f) at c.power.ensures) ∙ ap (λ (k : ℕ). power_of k a.p a.a.0 a.e.0) c.degree_of-m.ensures)
+    last_passes a.p c.in_ok-field.field (element_tests a.p a.a.0) c.in_ok-field.ensures tt (eqb a.a.0 0 && lt_z a.e.0 (pos 0)) 6
+    (passes c.before.before) (λ (m p : ℕ). power_of m p a.a.0 a.e.0) (rw (to_z-of_z f) at c.power.ensures)

@@ -1,17 +1,13 @@
 -- `sum` meets its contract. Assumes nothing.
-use mathlib.Core.Path.{sym, ◌∙◌}
+use Rattle.std.proofs.Common.{ℕ, sym}
+use Rattle.binary.specs.Xor.{◌⊕◌}
 use Rattle.binary.proofs.Xor.{is_xor}
 use Rattle.field.specs.Refusal.{elements_tests}
-use Rattle.field.proofs.Refusal.{down, given}
+use Rattle.field.proofs.Answered.{given_by}
 use Rattle.field.proofs.sum.Goals as goal
-
-pub returns-then-refused-ne0 : goal.returns-then-refused-ne0
-returns-then-refused-ne0 c =
-    let a = c.args in
-    down _ _ (elements_tests a.p a.a.0 a.b.0) c.of_elements-refused.ensures c.if-refused-ne0.true
 
 pub returns : goal.returns
 returns c =
     let a = c.args in
-    given _ _ (elements_tests a.p a.a.0 a.b.0) (sym c.of_elements-refused.ensures ∙ c.if-refused-ne0.false)
-    (sym (is_xor a.a.0 a.b.0))
+    given_by a.p c.in_ok-with_elements.field-0 (elements_tests a.p a.a.0 a.b.0) c.in_ok-with_elements.ensures
+    (λ (m p : ℕ). a.a.0 ⊕ a.b.0) (sym (is_xor a.a.0 a.b.0))

@@ -1,27 +1,14 @@
 -- `trace` meets its contract. Assumes nothing.
-use mathlib.Core.Path.{sym, ap, ◌∙◌}
-use Prim.Native.Nat.{ℕ}
+use Rattle.std.proofs.Common.{ℕ}
 use Rattle.galois.specs.Trace.{trace}
 use Rattle.field.specs.Refusal.{element_tests}
-use Rattle.field.proofs.Refusal.{down, given, element_passed}
-use Rattle.field.proofs.Ready.{element_ready}
+use Rattle.field.proofs.Answered.{element_in, given_by}
 use Rattle.field.proofs.trace.Goals as goal
 
-pub returns-then-refused-ne0 : goal.returns-then-refused-ne0
-returns-then-refused-ne0 c = let a = c.args in down _ _ (element_tests a.p a.c.0) c.of_element-refused.ensures c.if-refused-ne0.true
-
-pub degree_of-m-requires : goal.degree_of-m-requires
-degree_of-m-requires c =
-    let a = c.args in
-    (element_passed a.p a.c.0 (sym c.of_element-refused.ensures ∙ c.if-refused-ne0.false)).0
-
 pub trace-requires : goal.trace-requires
-trace-requires c =
-    let a = c.args in
-    (element_ready c.degree_of-m.result a.p c.degree_of-m.ensures a.c.0 _ c.of_element-refused.ensures c.if-refused-ne0.false)
+trace-requires c = let a = c.args in element_in a.p c.in_ok-field.field a.c.0 c.in_ok-field.ensures
 
 pub returns : goal.returns
 returns c =
     let a = c.args in
-    given _ _ (element_tests a.p a.c.0) (sym c.of_element-refused.ensures ∙ c.if-refused-ne0.false)
-    (c.trace.ensures ∙ ap (λ (k : ℕ). trace k a.p a.c.0) c.degree_of-m.ensures)
+    given_by a.p c.in_ok-field.field (element_tests a.p a.c.0) c.in_ok-field.ensures (λ (m p : ℕ). trace m p a.c.0) c.trace.ensures

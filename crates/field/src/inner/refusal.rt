@@ -1,116 +1,91 @@
-// The tests that a public call begins with, in the order of the table of numbers; 0 where none applies.
-ghost use Rattle.std.specs.Prelude.{◌≡◌, ◌&&◌, eqb, pos};
-ghost use Rattle.std.specs.Int.Signed.{lt_z};
-ghost use Rattle.binary.specs.Factor.{degree_of};
-ghost use Rattle.field.specs.Accepted.{Accepted};
-ghost use Rattle.field.specs.Refusal.{refusal, too_large, any_too_large, wrong_count, polynomial_tests, list_tests, element_tests, elements_tests};
+// The tests that a public call begins with, in the order of the table of numbers. Each says what it turns down, or hands on what passed.
+ghost use Rattle.std.specs.Prelude.{◌≡◌, [], ◌∷◌};
+ghost use Rattle.field.specs.Refusal.{◌⇒◌, outcome, too_large, any_too_large, wrong_count, polynomial_tests, list_tests, element_tests, elements_tests};
+ghost use Rattle.field.specs.Answers.{of_field, field_of, of_nothing};
 
+use crate::Element;
 use crate::limits::{POLYNOMIAL_CEILING, POLYNOMIAL_FLOOR};
-use crate::refused;
-use arithmetic::inner::power::is_negative;
-use binary::inner::digit::{degree, power_of_two};
-use binary::inner::factor::factor_free;
+use crate::refused::Refusal;
+use arithmetic::inner::field::Field;
+use binary::inner::digit::power_of_two;
+use binary::inner::modulo::Modulus;
 
-// The degree m of an accepted polynomial.
-pub fn degree_of(p: u32) -> u32
-    requires { Accepted p }
-    ensures { result ≡ degree_of p }
+// The field of a polynomial.
+pub fn accepted(p: u32) -> Result<Field, Refusal>
+    ensures { of_field result ≡ outcome (polynomial_tests p) (field_of p) }
 {
-    degree(p)
-}
-
-pub fn of_polynomial(p: u32) -> u32
-    ensures { result ≡ refusal (polynomial_tests p) }
-{
-    if p < POLYNOMIAL_FLOOR {
-        return refused::OUT_OF_RANGE;
+    if p < POLYNOMIAL_FLOOR || POLYNOMIAL_CEILING <= p {
+        return Err(Refusal::OutOfRange);
     }
-    if POLYNOMIAL_CEILING <= p {
-        return refused::OUT_OF_RANGE;
+    let modulus = Modulus::new(p);
+    if modulus.factor_free() {
+        return Ok(Field::new(modulus));
     }
-    if factor_free(p, degree(p)) {
-        return 0;
-    }
-    refused::HAS_FACTOR
+    Err(Refusal::HasFactor)
 }
 
 // Whether a is no element of the field: 2^m or more.
-fn too_large(p: u32, a: u32) -> bool
-    requires { Accepted p }
-    ensures { result ≡ too_large p a }
+fn too_large(field: Field, a: u32) -> bool
+    ensures { result ≡ too_large field.polynomial a }
 {
-    power_of_two(degree_of(p)) <= a
+    power_of_two(field.degree) <= a
+}
+
+fn element(field: Field, a: u32) -> Result<(), Refusal>
+    ensures { of_nothing result ≡ outcome (too_large field.polynomial a ⇒ 4 ∷ []) tt }
+{
+    if too_large(field, a) {
+        return Err(Refusal::TooLarge);
+    }
+    Ok(())
+}
+
+// The field, where a is an element of it.
+pub fn with_element(p: u32, a: Element) -> Result<Field, Refusal>
+    ensures { of_field result ≡ outcome (element_tests p a.0) (field_of p) }
+{
+    let field = accepted(p)?;
+    element(field, a.0)?;
+    Ok(field)
+}
+
+// The field, where a and b are elements of it.
+pub fn with_elements(p: u32, a: Element, b: Element) -> Result<Field, Refusal>
+    ensures { of_field result ≡ outcome (elements_tests p a.0 b.0) (field_of p) }
+{
+    let field = with_element(p, a)?;
+    element(field, b.0)?;
+    Ok(field)
 }
 
 // Whether there are no coefficients, or more than there may be.
 pub fn wrong_count(most: usize, count: usize) -> bool
     ensures { result ≡ wrong_count most count }
 {
-    if count == 0 {
-        return true;
-    }
-    most < count
+    count == 0 || most < count
 }
 
 // Whether one of the coefficients is no element of the field.
-fn any_too_large(p: u32, coefficients: &[u32]) -> bool
-    requires { Accepted p }
-    ensures { result ≡ any_too_large p coefficients.now }
+fn any_too_large(field: Field, coefficients: &[u32]) -> bool
+    ensures { result ≡ any_too_large field.polynomial coefficients.now }
 {
-    for i in 0..coefficients.len() {
-        if too_large(p, coefficients[i]) {
+    for &a in coefficients {
+        if too_large(field, a) {
             return true;
         }
     }
     false
 }
 
-// The number that a list of coefficients is turned down by: their count is wrong, or one of them is no element.
-pub fn of_list(p: u32, wrong: bool, coefficients: &[u32]) -> u32
-    requires { Accepted p }
-    ensures { result ≡ refusal (list_tests p wrong coefficients.now) }
+// A list of coefficients: turned down where their count is wrong, or one of them is no element.
+pub fn of_list(field: Field, wrong: bool, coefficients: &[u32]) -> Result<(), Refusal>
+    ensures { of_nothing result ≡ outcome (list_tests field.polynomial wrong coefficients.now) tt }
 {
     if wrong {
-        return refused::WRONG_COUNT;
+        return Err(Refusal::WrongCount);
     }
-    if any_too_large(p, coefficients) {
-        return refused::TOO_LARGE;
+    if any_too_large(field, coefficients) {
+        return Err(Refusal::TooLarge);
     }
-    0
-}
-
-pub fn of_element(p: u32, a: u32) -> u32
-    ensures { result ≡ refusal (element_tests p a) }
-{
-    let refused = of_polynomial(p);
-    if refused != 0 {
-        return refused;
-    }
-    if too_large(p, a) {
-        return refused::TOO_LARGE;
-    }
-    0
-}
-
-pub fn of_elements(p: u32, a: u32, b: u32) -> u32
-    ensures { result ≡ refusal (elements_tests p a b) }
-{
-    let refused = of_element(p, a);
-    if refused != 0 {
-        return refused;
-    }
-    if too_large(p, b) {
-        return refused::TOO_LARGE;
-    }
-    0
-}
-
-// Whether a power is 0 to a negative exponent.
-pub fn zero_to_negative(a: u32, e: i32) -> bool
-    ensures { result ≡ (eqb a 0 && lt_z e (pos 0)) }
-{
-    if a == 0 {
-        return is_negative(e);
-    }
-    false
+    Ok(())
 }

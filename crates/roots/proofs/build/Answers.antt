@@ -5,7 +5,7 @@ use Prim.Native.Nat.{ℕ}
 use Rattle.galois.specs.Polynomial.{Coeffs}
 use Rattle.field.specs.Refusal.{gives}
 use Rattle.field.proofs.Ready.{ready}
-use Rattle.field.proofs.Refusal.{refused_by, answered_by}
+use Rattle.field.proofs.Tests.{refused_by, answered_by}
 use Rattle.roots.specs.Calls.{build_tests, refused_built}
 use Rattle.roots.proofs.Tests.{build_passed}
 use Rattle.roots.proofs.build.Goals as goal

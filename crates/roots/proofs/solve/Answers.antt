@@ -1,6 +1,6 @@
 -- `solve` meets its contract. Assumes nothing.
 use mathlib.Core.Path.{sym, ◌∙◌}
-use Rattle.field.proofs.Refusal.{refused_by}
+use Rattle.field.proofs.Tests.{refused_by}
 use Rattle.roots.specs.Calls.{equation_tests, refused_answer}
 use Rattle.roots.proofs.solve.Goals as goal
 

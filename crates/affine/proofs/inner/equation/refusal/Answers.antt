@@ -5,7 +5,7 @@ use Prim.Native.Nat.{ℕ, ◌+◌}
 use lib.ListN.{length}
 use Rattle.binary.specs.Factor.{degree_of}
 use Rattle.field.specs.Refusal.{refusal, polynomial_tests, wrong_count, list_tests}
-use Rattle.field.proofs.Refusal.{then_kept, then_say, accepted}
+use Rattle.field.proofs.Tests.{then_kept, then_say, accepted}
 use borrow.Author.Rules.{rules}
 use Rattle.affine.proofs.inner.equation.refusal.Goals as goal
 

@@ -1,13 +1,7 @@
 -- `any_too_large` meets its contract: it looks at each coefficient until one is too large. Assumes nothing.
-use mathlib.Core.Path.{◌≡◌}
-use mathlib.Core.Bool.{false}
-use Prim.Native.Nat.{ℕ, ◌-◌, ◌<◌}
-use lib.ListN.{get_or}
+use Rattle.std.proofs.Common.{◌≡◌, ℕ, ◌<◌, false, get_or}
 use Rattle.field.specs.Refusal.{too_large}
 use Rattle.field.proofs.inner.refusal.any_too_large.Given as goal
 
-abbrev pub invariant-loop-i : goal.invariant-loop-i
-invariant-loop-i l = (j : ℕ) → j < l.i → too_large l.p (get_or l.coefficients j 0) ≡ false
-
-abbrev pub decreases-loop-i : goal.decreases-loop-i
-decreases-loop-i l = l.i-end - l.i
+abbrev pub invariant-loop-a : goal.invariant-loop-a
+invariant-loop-a l = (j : ℕ) → j < l.a-index → too_large l.field.polynomial (get_or l.coefficients j 0) ≡ false

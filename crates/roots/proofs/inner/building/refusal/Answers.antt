@@ -3,7 +3,7 @@ use mathlib.Core.Path.{sym, ◌∙◌}
 use lib.Dec.{ltb}
 use lib.ListN.{length}
 use Rattle.field.specs.Refusal.{polynomial_tests, list_tests}
-use Rattle.field.proofs.Refusal.{then_kept, then_say, accepted}
+use Rattle.field.proofs.Tests.{then_kept, then_say, accepted}
 use Rattle.roots.specs.Limits.{most_roots}
 use Rattle.roots.proofs.inner.building.refusal.Goals as goal
 

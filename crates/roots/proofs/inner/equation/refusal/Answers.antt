@@ -3,7 +3,7 @@ use mathlib.Core.Path.{sym, ◌∙◌}
 use mathlib.Core.List.{[], ◌∷◌, ◌++◌}
 use lib.ListN.{length}
 use Rattle.field.specs.Refusal.{◌⇒◌, polynomial_tests, wrong_count, list_tests}
-use Rattle.field.proofs.Refusal.{then_kept, accepted}
+use Rattle.field.proofs.Tests.{then_kept, accepted}
 use Rattle.roots.specs.Limits.{most_coefficients}
 use Rattle.roots.specs.Calls.{all_zero}
 use Rattle.roots.proofs.Tests.{list_applies, zero_applies, all_pass}
