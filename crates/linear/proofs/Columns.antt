@@ -9,11 +9,10 @@ use mathlib.Core.Bool.{Bool}
 use Rattle.algebra.specs.Search.{first}
 use Rattle.algebra.specs.Loop.{loop}
 use Rattle.algebra.proofs.Loop.{loop_more}
-use Rattle.linear.specs.declared.inner.elimination.Reduced.{Reduced}
-use Rattle.linear.specs.Elimination.{candidate, pivot, clear, use_row, step_at, step, start, eliminate}
+use Rattle.linear.specs.Elimination.{State, candidate, pivot, clear, use_row, step_at, step, start, eliminate}
 use Rattle.linear.proofs.Clear.{clear-length}
 
-abbrev reduced : List ℕ → List ℕ → Reduced
+abbrev reduced : List ℕ → List ℕ → State
 reduced a marks = record { rows = a; marks = marks }
 
 -- the test of a pivot row, on the code's two arrays

@@ -6,11 +6,11 @@ use Prim.Native.Nat.{ℕ, suc, ◌+◌, ◌-◌, ◌≤◌, ◌<◌}
 use native.Mathlib.Omega.{arith}
 use lib.ListN.{length, set, replicate, length-append}
 use lib.Seq.{set_at}
-use Rattle.linear.specs.declared.inner.elimination.Reduced.{Reduced}
+use Rattle.linear.specs.Elimination.{State}
 use Rattle.linear.specs.Limits.{places}
 use Rattle.linear.specs.Directions.{in_front}
 use Rattle.linear.specs.Reading.{taken, free_direction, free_directions}
-use Rattle.linear.specs.Solution.{placed, solution_if}
+use Rattle.linear.specs.Solution.{placed, some_solutions}
 
 -- one more at the end, in place of the first 0
 push : (ds : List ℕ) (v : ℕ) → length ds < places → set (placed ds) (length ds) v ≡ placed (ds ++ (v ∷ []))
@@ -23,7 +23,7 @@ push ds v h =
     ∙ sym (append_assoc ds (v ∷ []) (replicate (places - 1 - length ds) 0)))
 
 -- after the columns below t: what is held, followed by what is still to come, is the whole
-pub record Gathered (s : Reduced) (m t : ℕ) (list : List ℕ) (count : ℕ) : Type 0 where
+pub record Gathered (s : State) (m t : ℕ) (list : List ℕ) (count : ℕ) : Type 0 where
   pub held : List ℕ
   pub within : t ≤ m
   pub few : length held ≤ t
@@ -31,7 +31,7 @@ pub record Gathered (s : Reduced) (m t : ℕ) (list : List ℕ) (count : ℕ) : 
   pub list_is : list ≡ placed held
   pub whole : held ++ free_directions s (m - t) t ≡ free_directions s m 0
 
-pub gathered_start : (s : Reduced) (m : ℕ) → Gathered s m 0 (replicate places 0) 0
+pub gathered_start : (s : State) (m : ℕ) → Gathered s m 0 (replicate places 0) 0
 unfolding placed
 gathered_start s m =
     record {
@@ -43,7 +43,7 @@ gathered_start s m =
       whole = ap (λ (j : ℕ). free_directions s j 0) (omega arith);
     }
 
-module _ (s : Reduced) (m t : ℕ) (list : List ℕ) (count : ℕ) (lt : t < m) (g : Gathered s m t list count) where
+module _ (s : State) (m t : ℕ) (list : List ℕ) (count : ℕ) (lt : t < m) (g : Gathered s m t list count) where
   rest : (b : Bool) → taken s t ≡ b → free_directions s (m - t) t ≡ in_front (not b) (free_direction s t) (free_directions s (m - (t + 1)) (t + 1))
   unfolding free_directions
   rest b e =
@@ -79,21 +79,20 @@ module _ (s : Reduced) (m t : ℕ) (list : List ℕ) (count : ℕ) (lt : t < m) 
             ∙ ap (λ (l : List ℕ). g.held ++ l) (sym (rest false e)) ∙ g.whole;
       }
 
-gathered_end : (s : Reduced) (m t : ℕ) (list : List ℕ) (count : ℕ) → m ≤ t → (g : Gathered s m t list count) → g.held ≡ free_directions s m 0
+gathered_end : (s : State) (m t : ℕ) (list : List ℕ) (count : ℕ) → m ≤ t → (g : Gathered s m t list count) → g.held ≡ free_directions s m 0
 unfolding free_directions
 gathered_end s m t list count h g =
     let z : m - t ≡ 0 = omega arith in
     sym (append-nil g.held) ∙ ap (λ (j : ℕ). g.held ++ free_directions s j t) (sym z) ∙ g.whole
 
 -- what the code hands back
-pub gathered_solution : (s : Reduced) (m t : ℕ) (list : List ℕ) (count b w : ℕ) → m ≤ t → Gathered s m t list count → b ≡ w
-    → record { found = true; count = count; base = b; directions = list } ≡ solution_if true w (free_directions s m 0)
-unfolding solution_if
-gathered_solution s m t list count b w h g e =
+pub gathered_solutions : (s : State) (m t : ℕ) (list : List ℕ) (count b w : ℕ) → m ≤ t → Gathered s m t list count → b ≡ w
+    → record { base = b; count = count; directions = list } ≡ some_solutions w (free_directions s m 0)
+unfolding some_solutions
+gathered_solutions s m t list count b w h g e =
     let f = gathered_end s m t list count h g in
     λ i. record {
-      found = true;
-      count = (g.count_is ∙ ap length f) i;
       base = e i;
+      count = (g.count_is ∙ ap length f) i;
       directions = (g.list_is ∙ ap placed f) i;
     }

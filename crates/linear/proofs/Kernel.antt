@@ -12,9 +12,8 @@ use Rattle.algebra.proofs.Loop.{loop_keeps}
 use Rattle.binary.specs.Xor.{◌⊕◌}
 use Rattle.binary.specs.Bit.{bit}
 use Rattle.binary.proofs.Xor.{xor-zero, xor_self, equal_of_xor}
-use Rattle.linear.specs.declared.inner.elimination.Reduced.{Reduced}
 use Rattle.linear.specs.System.{dot, Kernel, Solves}
-use Rattle.linear.specs.Elimination.{clear, use_row, pivot, step_at, step, start, eliminate}
+use Rattle.linear.specs.Elimination.{State, clear, use_row, pivot, step_at, step, start, eliminate}
 use Rattle.linear.proofs.Dot.{dot-xor, xor-dot, dot_pow, digit-dot}
 use Rattle.linear.proofs.Clear.{wants, wants_lt, wants_self, clear-row}
 
@@ -39,10 +38,10 @@ module _ (k p : ℕ) (l : List ℕ) (lp : p < length l) where
       back h j = sym (dot-after w j (pivot-row h)) ∙ h j
 
 -- after some columns every row still sends the same numbers to 0
-abbrev Same : List ℕ → Reduced → Type 0
+abbrev Same : List ℕ → State → Type 0
 Same l s = (w : ℕ) → Kernel l w ↔ Kernel s.rows w
 
-same_at : (k p : ℕ) (l : List ℕ) (s : Reduced) (b : Bool) → ltb p (length s.rows) ≡ b → Same l s → Same l (step_at k p s b)
+same_at : (k p : ℕ) (l : List ℕ) (s : State) (b : Bool) → ltb p (length s.rows) ≡ b → Same l s → Same l (step_at k p s b)
 unfolding step_at use_row
 same_at k p l s false e c = c
 same_at k p l s true e c =

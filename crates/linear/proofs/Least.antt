@@ -12,9 +12,8 @@ use Rattle.binary.specs.Xor.{◌⊕◌, Degree}
 use Rattle.binary.specs.Bit.{bit}
 use Rattle.binary.proofs.Xor.{zero_xor, xor_twice, ac, equal_of_xor, xor_lt, keep-top, same-top, has_degree, exp_lt}
 use Rattle.binary.proofs.Bit.{bit-xor, bit_pow_other, degree_pow, lt_xor}
-use Rattle.linear.specs.declared.inner.elimination.Reduced.{Reduced}
 use Rattle.linear.specs.System.{dot, Kernel, Solves}
-use Rattle.linear.specs.Elimination.{row, mark}
+use Rattle.linear.specs.Elimination.{State, row, mark}
 use Rattle.linear.specs.Reading.{column}
 use Rattle.linear.proofs.Dot.{dot-xor, dot_pow}
 use Rattle.linear.proofs.Kernel.{solves_iff}
@@ -24,28 +23,28 @@ use Rattle.linear.proofs.Project.{term, fill, project, Free, project_kernel, fil
 pub kernel_xor : (l : List ℕ) (a b : ℕ) → Kernel l a → Kernel l b → Kernel l (a ⊕ b)
 kernel_xor l a b p q i = dot-xor (get_or l i 0) a b ∙ rw (p i, q i) (zero_xor 0)
 
-column_fill : (s : Reduced) (f n : ℕ) → fill s (2 ^ f) n ≡ column s f n
+column_fill : (s : State) (f n : ℕ) → fill s (2 ^ f) n ≡ column s f n
 unfolding fill column term
 column_fill s f zero = refl
 column_fill s f (suc n) = rw (column_fill s f n, dot_pow f (row s n))
 
 -- column f's own bit, and the pivot columns that go with it
-abbrev pub along : Reduced → ℕ → ℕ → ℕ
+abbrev pub along : State → ℕ → ℕ → ℕ
 along s n f = 2 ^ f ⊕ column s f n
 
-along_is : (n : ℕ) (s : Reduced) (f : ℕ) → along s n f ≡ project n s (2 ^ f)
+along_is : (n : ℕ) (s : State) (f : ℕ) → along s n f ≡ project n s (2 ^ f)
 unfolding project
 along_is n s f = ap (λ (x : ℕ). 2 ^ f ⊕ x) (sym (column_fill s f n))
 
-base_is : (m n : ℕ) (s : Reduced) → 2 ^ m ⊕ column s m n ≡ project n s (2 ^ m)
+base_is : (m n : ℕ) (s : State) → 2 ^ m ⊕ column s m n ≡ project n s (2 ^ m)
 unfolding project
 base_is m n s = ap (λ (x : ℕ). 2 ^ m ⊕ x) (sym (column_fill s m n))
 
 -- no unused row holds the right-hand bit
-abbrev pub Consistent : ℕ → ℕ → Reduced → Type 0
+abbrev pub Consistent : ℕ → ℕ → State → Type 0
 Consistent m n s = (i : ℕ) → i < n → mark s i ≡ m → bit m (row s i) ≡ 0
 
-module _ (m n : ℕ) (s : Reduced) (c : Pivots m n m s) where
+module _ (m n : ℕ) (s : State) (c : Pivots m n m s) where
   -- ---- solutions
 
   module _ (ok : Consistent m n s) where

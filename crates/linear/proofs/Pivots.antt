@@ -17,12 +17,11 @@ use Rattle.binary.specs.Xor.{◌⊕◌}
 use Rattle.binary.specs.Bit.{bit}
 use Rattle.binary.proofs.Xor.{xor-zero, xor_self}
 use Rattle.binary.proofs.Bit.{bit_lt, bit-xor, bit-digit}
-use Rattle.linear.specs.declared.inner.elimination.Reduced.{Reduced}
-use Rattle.linear.specs.Elimination.{row, mark, candidate, pivot, use_row, step_at, step, start, eliminate}
+use Rattle.linear.specs.Elimination.{State, row, mark, candidate, pivot, use_row, step_at, step, start, eliminate}
 use Rattle.linear.proofs.Clear.{wants, wants_lt, wants_self, wants_other, clear-length, clear-row}
 
 -- after the columns below k
-pub record Pivots (m n k : ℕ) (s : Reduced) : Type 0 where
+pub record Pivots (m n k : ℕ) (s : State) : Type 0 where
   pub rows_len : length s.rows ≡ n
   pub marks_len : length s.marks ≡ n
   pub mark_le : (i : ℕ) → i < n → mark s i ≤ m
@@ -60,7 +59,7 @@ candidate_not m k mark row e h = pick (ℕ_discrete (bit k row) 1)
 
 -- ---- a column with no pivot row
 
-module _ (m n k : ℕ) (s : Reduced) (c : Pivots m n k s) (lk : k < m) where
+module _ (m n k : ℕ) (s : State) (c : Pivots m n k s) (lk : k < m) where
   pub passed : ((i : ℕ) → i < n → mark s i ≡ m → bit k (row s i) ≡ 0) → Pivots m n (suc k) s
   passed h =
       record {
@@ -86,7 +85,7 @@ module _ (m n k : ℕ) (s : Reduced) (c : Pivots m n k s) (lk : k < m) where
   -- ---- a column with the pivot row p
 
   module _ (p : ℕ) (lp : p < n) (free : mark s p ≡ m) (one : bit k (row s p) ≡ 1) where
-    after : Reduced
+    after : State
     after = use_row k p s
 
     row-after : (j : ℕ) → row after j ≡ row s j ⊕ wants k p s.rows j * row s p
@@ -158,7 +157,7 @@ module _ (m n k : ℕ) (s : Reduced) (c : Pivots m n k s) (lk : k < m) where
 
 -- ---- every column
 
-at : (m n k p : ℕ) (s : Reduced) (b : Bool) → ltb p n ≡ b → First (λ i. candidate m k (mark s i) (row s i)) 0 n p → k < m → Pivots m n k s
+at : (m n k p : ℕ) (s : State) (b : Bool) → ltb p n ≡ b → First (λ i. candidate m k (mark s i) (row s i)) 0 n p → k < m → Pivots m n k s
     → Pivots m n (suc k) (step_at k p s b)
 unfolding step_at
 at m n k p s true e f l c =

@@ -12,9 +12,8 @@ use Rattle.binary.specs.Xor.{◌⊕◌, Degree}
 use Rattle.binary.specs.Bit.{bit}
 use Rattle.binary.proofs.Xor.{zero_xor, xor-zero, xor_self, xor_lt}
 use Rattle.binary.proofs.Bit.{bit-zero, bit-xor, bit_pow_other, bit-digit, digit-times_lt}
-use Rattle.linear.specs.declared.inner.elimination.Reduced.{Reduced}
 use Rattle.linear.specs.System.{dot, Kernel}
-use Rattle.linear.specs.Elimination.{row, mark}
+use Rattle.linear.specs.Elimination.{State, row, mark}
 use Rattle.linear.proofs.Dot.{dot-zero, zero-dot, dot_lt, dot-xor, dot_pow, dot_low, dot_meet, dot-digit}
 use Rattle.linear.proofs.Pivots.{Pivots}
 
@@ -38,29 +37,29 @@ under_zero : (j : ℕ) → under j 0 ≡ 0
 unfolding under
 under_zero j = omega arith
 
-unfoldable pub term : Reduced → ℕ → ℕ → ℕ
+unfoldable pub term : State → ℕ → ℕ → ℕ
 term s w i = dot (row s i) w * 2 ^ mark s i
 
 -- the pivot columns of the rows below n that do not send w to 0
-unfoldable pub fill : Reduced → ℕ → ℕ → ℕ
+unfoldable pub fill : State → ℕ → ℕ → ℕ
 fill s w zero = 0
 fill s w (suc n) = fill s w n ⊕ term s w n
 
-unfoldable pub project : ℕ → Reduced → ℕ → ℕ
+unfoldable pub project : ℕ → State → ℕ → ℕ
 project n s w = w ⊕ fill s w n
 
 -- no row has the mark t
-abbrev pub Free : ℕ → Reduced → ℕ → Type 0
+abbrev pub Free : ℕ → State → ℕ → Type 0
 Free n s t = (i : ℕ) → i < n → mark s i ≢ t
 
 -- what holds of each term, of 0 and of sums, holds of the whole
-pub fill_all : (P : ℕ → Type 0) (s : Reduced) (w n : ℕ) → P 0 → ((a b : ℕ) → P a → P b → P (a ⊕ b)) → ((i : ℕ) → i < n → P (term s w i)) → P (fill s w n)
+pub fill_all : (P : ℕ → Type 0) (s : State) (w n : ℕ) → P 0 → ((a b : ℕ) → P a → P b → P (a ⊕ b)) → ((i : ℕ) → i < n → P (term s w i)) → P (fill s w n)
 unfolding fill
 fill_all P s w zero z x h = z
 fill_all P s w (suc n) z x h =
     x _ _ (fill_all P s w n z x (λ i l. h i (omega arith))) (h n (omega arith))
 
-module _ (m n : ℕ) (s : Reduced) (c : Pivots m n m s) where
+module _ (m n : ℕ) (s : State) (c : Pivots m n m s) where
   -- a row sends a pivot column to 0, unless it is its own
   dot-mark : (i j : ℕ) → j < n → i ≢ j → mark s j < m → dot (row s i) (2 ^ mark s j) ≡ 0
   dot-mark i j l h q = dot_pow (mark s j) (row s i) ∙ c.alone j i l h q

@@ -3,6 +3,7 @@ use mathlib.Core.Path.{◌≡◌, refl, sym, ap, ap₂, ◌∙◌, subst}
 use mathlib.Core.Logic.{◌↔◌}
 use mathlib.Core.Bool.{Bool, true, false, not}
 use mathlib.Core.List.{List, []}
+use Rattle.std.specs.Prelude.{Some, None}
 use Prim.Native.Nat.{ℕ, zero, suc, ◌+◌, ◌^◌, ◌≤◌, ◌<◌}
 use native.Mathlib.Omega.{arith}
 use native.Mathlib.Decide.{dec_lt}
@@ -13,13 +14,13 @@ use Rattle.algebra.specs.Search.{first, every_below}
 use Rattle.algebra.proofs.Search.{first_is, some_yes, some_not, some_one, some_none, some_same, first-same, every_below_lem, every_at}
 use Rattle.binary.specs.Bit.{bit}
 use Rattle.binary.proofs.Bit.{bit-zero}
-use Rattle.linear.specs.declared.inner.elimination.Reduced.{Reduced}
 use Rattle.linear.specs.Limits.{places}
 use Rattle.linear.specs.System.{dot, Kernel, Solves}
-use Rattle.linear.specs.Elimination.{row, mark, candidate, eliminate}
+use Rattle.linear.specs.Elimination.{State, row, mark, candidate, eliminate}
 use Rattle.linear.specs.Directions.{in_front, directions_from}
-use Rattle.linear.specs.Reading.{MarksFit, column, broken, taken, free_direction, free_directions}
-use Rattle.linear.specs.Solution.{solution_if, solution_by, solves_rows, in_kernel}
+use Rattle.linear.specs.Marks.{MarksFit}
+use Rattle.linear.specs.Reading.{column, broken, taken, free_direction, free_directions}
+use Rattle.linear.specs.Solution.{some_solutions, solution_if, solution_by, solves_rows, in_kernel}
 use Rattle.linear.proofs.Dot.{zero-dot}
 use Rattle.linear.proofs.Kernel.{same_kernel, same_solutions}
 use Rattle.linear.proofs.Pivots.{Pivots, pivots, candidate_yes, candidate_not}
@@ -66,7 +67,7 @@ solution-same m g h f k a b =
 -- ---- the reduced rows
 
 module _ (m : ℕ) (l : List ℕ) where
-  abbrev s : Reduced
+  abbrev s : State
   s = eliminate m l
 
   abbrev n : ℕ
@@ -120,9 +121,9 @@ module _ (m : ℕ) (l : List ℕ) where
           let k = candidate_yes m m (mark s r.0) (row s r.0) r.2 in
           absurd (omega (arith, k.1, solves_consistent m n s c v (there v h q) r.0 (omega (arith, r.1, c.rows_len)) k.0))
 
-  pub solved_none : broken m s ≡ true → (b : ℕ) (ds : List ℕ) → solution_if false b ds ≡ solution_by m (solves_rows m l) (in_kernel l)
+  pub solved_none : broken m s ≡ true → None ≡ solution_by m (solves_rows m l) (in_kernel l)
   unfolding solution_by solution_if
-  solved_none e b ds = sym (rw (some_none (solves_rows m l) (2 ^ m) (no_solution e)))
+  solved_none e = sym (rw (some_none (solves_rows m l) (2 ^ m) (no_solution e)))
 
   consistent : broken m s ≡ false → Consistent m n s
   unfolding broken
@@ -146,12 +147,12 @@ module _ (m : ℕ) (l : List ℕ) where
     base_is : column s m n ≡ first (solves_rows m l) (2 ^ m)
     base_is = sym (first_is (solves_rows m l) (2 ^ m) (column s m n) (base_lt m n s c (consistent e)) base_passes below_base)
 
-    pub solved_some : solution_if true (column s m n) (free_directions s m 0) ≡ solution_by m (solves_rows m l) (in_kernel l)
-    unfolding solution_by
+    pub solved_some : Some (some_solutions (column s m n) (free_directions s m 0)) ≡ solution_by m (solves_rows m l) (in_kernel l)
+    unfolding solution_by solution_if
     solved_some =
-        ap₂ (solution_if true) base_is directions_are
+        ap₂ (λ (b : ℕ) (ds : List ℕ). Some (some_solutions b ds)) base_is directions_are
         ∙ sym (rw (some_one (solves_rows m l) (2 ^ m) (column s m n) (base_lt m n s c (consistent e)) base_passes))
 
   -- what the code asks of the reduced rows
-  pub marks_fit : m ≤ places → length l ≡ places → (r : Reduced) → r ≡ s → MarksFit r
-  marks_fit h long r e i q = rw e (omega (arith, c.mark_le i (omega (arith, long))))
+  pub marks_fit : m ≤ places → length l ≡ places → MarksFit s.marks
+  marks_fit h long i q = omega (arith, c.mark_le i (omega (arith, long)))

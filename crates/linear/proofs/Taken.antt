@@ -12,12 +12,11 @@ use lib.ListN.{length}
 use Rattle.algebra.proofs.Search.{some_yes, some_not, some_one, some_none}
 use Rattle.binary.specs.Bit.{bit}
 use Rattle.binary.proofs.Bit.{bit-zero, bit_or_lem, bit_pow, bit_pow_other}
-use Rattle.linear.specs.declared.inner.elimination.Reduced.{Reduced}
-use Rattle.linear.specs.Elimination.{mark}
+use Rattle.linear.specs.Elimination.{State, mark}
 use Rattle.linear.specs.Reading.{pivot_columns, taken}
 use Rattle.linear.proofs.Project.{Free}
 
-module _ (n : ℕ) (s : Reduced) (long : length s.rows ≡ n) (t : ℕ) where
+module _ (n : ℕ) (s : State) (long : length s.rows ≡ n) (t : ℕ) where
   pub taken_not : taken s t ≡ false → Free n s t
   unfolding taken
   taken_not e i l q =

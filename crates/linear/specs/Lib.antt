@@ -1,7 +1,9 @@
 pub mod Limits
+pub mod Marks
 pub mod System
 pub mod Elimination
 pub mod Directions
 pub mod Reading
 pub mod Solution
 pub mod Matrix
+pub mod Values

@@ -5,18 +5,13 @@ ghost use Rattle.binary.specs.Xor.{◌⊕◌};
 ghost use Rattle.binary.specs.Bit.{bit};
 ghost use Rattle.linear.specs.Limits.{places};
 ghost use Rattle.linear.specs.Elimination.{candidate, clear, eliminate};
+ghost use Rattle.linear.specs.Values.{state};
 
+use crate::inner::reduced::Reduced;
 use binary::inner::digit::{bit, picked};
 
 // Rows and unknowns at most.
 pub const PLACES: usize = 16;
-
-// The rows after the elimination, and the mark of each: the column that it is the pivot of, m while it is unused.
-#[derive(Clone, Copy)]
-pub struct Reduced {
-    pub rows: [u32; PLACES],
-    pub marks: [u32; PLACES],
-}
 
 // The pivot row added, where the row holds column k.
 fn added(row: u32, pivot: u32, k: u32) -> u32
@@ -33,9 +28,8 @@ fn cleared(rows: [u32; PLACES], k: u32, p: usize) -> [u32; PLACES]
 {
     let pivot = rows[p];
     let mut out = rows;
-    for i in 0..PLACES {
-        let row = out[i];
-        out[i] = added(row, pivot, k);
+    for row in out.iter_mut() {
+        *row = added(*row, pivot, k);
     }
     out[p] = pivot;
     out
@@ -46,33 +40,36 @@ pub fn may_pivot(m: u32, mark: u32, row: u32, k: u32) -> bool
     requires { k < 32 }
     ensures { result ≡ candidate m k mark row }
 {
-    if mark == m {
-        return bit(row, k) == 1;
-    }
-    false
+    mark == m && bit(row, k) == 1
 }
 
+// The search for the pivot row stands inside the loop over the columns, and yields it by `break`.
 pub fn eliminated(m: u32, rows: [u32; PLACES]) -> Reduced
     requires { m ≤ places }
-    ensures { result ≡ eliminate m rows }
+    ensures unknowns { result.unknowns ≡ m }
+    ensures rows { state result ≡ eliminate m rows }
 {
     let mut a = rows;
     let mut marks = [m; PLACES];
     for k in 0..m {
         let mut i: usize = 0;
-        let p = loop {
+        let pivot = loop {
             if PLACES <= i {
-                break PLACES;
+                break None;
             }
             if may_pivot(m, marks[i], a[i], k) {
-                break i;
+                break Some(i);
             }
             i += 1;
         };
-        if p < PLACES {
+        if let Some(p) = pivot {
             a = cleared(a, k, p);
             marks[p] = k;
         }
     }
-    Reduced { rows: a, marks }
+    Reduced {
+        unknowns: m,
+        rows: a,
+        marks,
+    }
 }

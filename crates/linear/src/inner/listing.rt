@@ -6,7 +6,7 @@ ghost use Rattle.binary.specs.Xor.{◌⊕◌};
 ghost use Rattle.linear.specs.Limits.{places, width};
 ghost use Rattle.linear.specs.Directions.{choose};
 
-use crate::inner::elimination::PLACES;
+use crate::inner::space::Space;
 
 // What the list holds: `width` bits.
 pub type Entry = u16;
@@ -15,7 +15,7 @@ fn entry(x: u32) -> Entry
     requires { x < 2 ^ width }
     ensures { result ≡ x }
 {
-    (x % 65536) as Entry
+    x as Entry
 }
 
 // The first `size` entries once more after themselves, each with d added.
@@ -28,15 +28,17 @@ fn doubled(list: &mut [Entry], size: usize, d: Entry)
     }
 }
 
-// The base combined with each choice of the first `count` directions, in the order of the numbers that choose; entries after them stay.
-pub fn list_all(list: &mut [Entry], base: u32, count: usize, directions: [u32; PLACES])
-    requires { (count ≤ places) × (2 ^ count ≤ length list.old) × (base < 2 ^ width) × ((i : ℕ) → i < count → get_or directions i 0 < 2 ^ width) }
-    ensures { list.new ≡ map (λ k. base ⊕ choose directions k) (count_up 0 (2 ^ count)) ++ drop (2 ^ count) list.old }
-{
-    list[0] = entry(base);
-    let mut size: usize = 1;
-    for j in 0..count {
-        doubled(list, size, entry(directions[j]));
-        size = size * 2;
+impl Space {
+    // The base combined with each choice of the directions, in the order of the numbers that choose; entries after them stay.
+    pub fn list_all(&self, list: &mut [Entry])
+        requires { (2 ^ self.now.count ≤ length list.old) × (self.now.base < 2 ^ width) × ((i : ℕ) → i < self.now.count → get_or self.now.directions i 0 < 2 ^ width) }
+        ensures { list.new ≡ map (λ k. self.now.base ⊕ choose self.now.directions k) (count_up 0 (2 ^ self.now.count)) ++ drop (2 ^ self.now.count) list.old }
+    {
+        list[0] = entry(self.base);
+        let mut size: usize = 1;
+        for direction in &self.directions[..self.count] {
+            doubled(list, size, entry(*direction));
+            size *= 2;
+        }
     }
 }

@@ -13,9 +13,8 @@ fn with_column(rows: [u32; PLACES], column: u32, j: u32) -> [u32; PLACES]
 {
     let power = power_of_two(j);
     let mut out = rows;
-    for i in 0..PLACES {
-        let row = out[i];
-        out[i] = row ^ picked(bit(column, i as u32), power);
+    for (i, row) in out.iter_mut().enumerate() {
+        *row ^= picked(bit(column, i as u32), power);
     }
     out
 }
@@ -24,10 +23,9 @@ pub fn rows_of(m: u32, columns: [u32; PLACES], right: u32) -> [u32; PLACES]
     requires { m ≤ places }
     ensures { result ≡ rows_of m (λ (j : ℕ). get_or columns j 0) right }
 {
-    let mut rows: [u32; PLACES] = [0; PLACES];
-    for j in 0..m {
-        let column = columns[j as usize];
-        let next = with_column(rows, column, j);
+    let mut rows = [0; PLACES];
+    for (j, column) in columns[..m as usize].iter().enumerate() {
+        let next = with_column(rows, *column, j as u32);
         rows = next;
     }
     with_column(rows, right, m)

@@ -5,13 +5,13 @@ use Rattle.algebra.proofs.Filled.{filled_none}
 use Rattle.linear.proofs.Clear.{clear-turn, clear_end}
 use Rattle.linear.proofs.inner.elimination.cleared.Goals as goal
 
-pub loop-i-init : goal.loop-i-init
-loop-i-init c = filled_none _ _
+pub loop-row-init : goal.loop-row-init
+loop-row-init c = filled_none _ _
 
-pub loop-i-preserved : goal.loop-i-preserved
-loop-i-preserved c =
-    let l = c.loop-i in
-    clear-turn _ _ _ l.out l.i c.added.result (omega arith) c.added.ensures l.invariant
+pub loop-row-preserved : goal.loop-row-preserved
+loop-row-preserved c =
+    let l = c.loop-row in
+    clear-turn _ _ _ l.row-items l.row-index c.added.result (omega arith) c.added.ensures l.invariant
 
 pub returns : goal.returns
-returns c = clear_end _ _ _ _ c.loop-i.i (omega arith) c.loop-i.invariant
+returns c = clear_end _ _ _ _ c.loop-row.row-index (omega arith) c.loop-row.invariant

@@ -10,6 +10,6 @@ pub returns-then-mark-m : goal.returns-then-mark-m
 unfolding candidate
 returns-then-mark-m c = rw (eq-eqb _ _ c.if-mark-m.true) (ap (λ (x : ℕ). eqb x 1) c.bit.ensures)
 
-pub returns : goal.returns
+pub returns-else-mark-m : goal.returns-else-mark-m
 unfolding candidate
-returns c = rw (ne_eqb _ _ c.if-mark-m.false)
+returns-else-mark-m c = rw (ne_eqb _ _ c.if-mark-m.false)

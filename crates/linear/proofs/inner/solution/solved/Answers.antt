@@ -1,38 +1,29 @@
 -- `solved` meets its contract. Assumes nothing.
-use mathlib.Core.Path.{◌≡◌, sym, ap, ◌∙◌}
-use mathlib.Core.Bool.{true}
-use mathlib.Core.List.{[]}
+use mathlib.Core.Path.{◌≡◌, sym, ap, ap₂, ◌∙◌}
 use Prim.Native.Nat.{ℕ}
 use lib.ListN.{length}
 use borrow.Author.Rules.{rules}
-use Rattle.linear.specs.declared.inner.elimination.Reduced.{Reduced}
+use Rattle.std.specs.Prelude.{Some}
 use Rattle.linear.specs.Limits.{places}
-use Rattle.linear.specs.Elimination.{eliminate}
+use Rattle.linear.specs.Elimination.{State, eliminate}
 use Rattle.linear.specs.Reading.{broken, column, free_directions}
-use Rattle.linear.specs.Solution.{solution_if}
-use Rattle.linear.proofs.Solved.{solved_none, solved_some, marks_fit}
+use Rattle.linear.specs.Solution.{Solutions, some_solutions}
+use Rattle.linear.proofs.Solved.{solved_none, solved_some}
 use Rattle.linear.proofs.inner.solution.solved.Goals as goal
 
 pub returns-then-contradicts : goal.returns-then-contradicts
-unfolding solution_if
 returns-then-contradicts c =
-    let e = c.contradicts.ensures in
-    let q = c.eliminated-s.ensures in
     let a = c.args in
-    solved_none a.m a.rows (ap (broken a.m) (sym q) ∙ sym e ∙ c.if-contradicts.true) 0 []
+    let q = c.eliminated-reduced.ensures in
+    solved_none a.m a.rows (ap₂ broken (sym q.unknowns) (sym q.rows) ∙ sym c.contradicts.ensures ∙ c.if-contradicts.true)
 
-pub read-requires : goal.read-requires
-read-requires c =
-    let q = c.eliminated-s.ensures in
+pub returns-else-contradicts : goal.returns-else-contradicts
+returns-else-contradicts c =
     let a = c.args in
-    (search rules, search rules, marks_fit a.m a.rows (search rules) (search rules) _ q)
-
-pub returns : goal.returns
-returns c =
-    let e = c.contradicts.ensures in
-    let q = c.eliminated-s.ensures in
-    let a = c.args in
+    let q = c.eliminated-reduced.ensures in
     let long : length a.rows ≡ places = search rules in
-    c.read.ensures ∙ ap (λ (s : Reduced). solution_if true (column s a.m places) (free_directions s a.m 0)) q
-    ∙ ap (λ (n : ℕ). solution_if true (column (eliminate a.m a.rows) a.m n) (free_directions (eliminate a.m a.rows) a.m 0)) (sym long)
-    ∙ solved_some a.m a.rows (ap (broken a.m) (sym q) ∙ sym e ∙ c.if-contradicts.false)
+    ap (λ (s : Solutions). Some s)
+    (c.solutions.ensures
+    ∙ ap₂ (λ (s : State) (m : ℕ). some_solutions (column s m places) (free_directions s m 0)) q.rows q.unknowns
+    ∙ ap (λ (n : ℕ). some_solutions (column (eliminate a.m a.rows) a.m n) (free_directions (eliminate a.m a.rows) a.m 0)) (sym long))
+    ∙ solved_some a.m a.rows (ap₂ broken (sym q.unknowns) (sym q.rows) ∙ sym c.contradicts.ensures ∙ c.if-contradicts.false)

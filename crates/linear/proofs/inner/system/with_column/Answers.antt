@@ -17,7 +17,7 @@ picked-requires c = rw c.bit.ensures (bit_lt _ _)
 pub loop-i-preserved : goal.loop-i-preserved
 loop-i-preserved c =
     let l = c.loop-i in
-    with_column-turn _ _ _ l.out l.i l.invariant c.picked.result (omega arith)
+    with_column-turn _ _ _ l.row-items l.i l.invariant c.picked.result (omega arith)
     (c.picked.ensures ∙ ap₂ ◌*◌ c.bit.ensures c.power_of_two-power.ensures)
 
 pub returns : goal.returns
