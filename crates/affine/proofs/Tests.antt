@@ -1,5 +1,5 @@
 -- What has passed the tests of an equation (`equation_ready`), and the part of it after its first coefficient. Assumes nothing.
-use mathlib.Core.Path.{◌≡◌, refl, sym, subst}
+use mathlib.Core.Path.{◌≡◌, refl, sym, subst₂}
 use mathlib.Core.List.{List, [], ◌∷◌}
 use Prim.Native.Nat.{ℕ, ◌+◌, ◌-◌, ◌≤◌}
 use native.Mathlib.Omega.{arith}
@@ -8,8 +8,11 @@ use lib.Seq.{take_all}
 use Rattle.binary.specs.Factor.{degree_of}
 use Rattle.galois.specs.Polynomial.{Coeffs}
 use Rattle.field.specs.Accepted.{Accepted}
-use Rattle.field.specs.Refusal.{refusal}
+use Rattle.field.specs.Refusal.{refusal, outcome, gives}
 use Rattle.field.proofs.Tests.{passes, accepted}
+use Rattle.arithmetic.specs.declared.inner.field.Field.{Field}
+use Rattle.field.specs.Answers.{field_of}
+use Rattle.field.proofs.Answered.{field_given}
 use Rattle.field.proofs.Coefficients.{count_some, count_few, coefficients_small}
 use Rattle.affine.specs.Equation.{Ready}
 use Rattle.affine.specs.Calls.{equation_tests}
@@ -32,8 +35,12 @@ equation_ready p cs e =
       small = coefficients_small p cs t.1.1.1.0;
     }
 
-pub ready_at : (m p : ℕ) (cs : List ℕ) → m ≡ degree_of p → Ready (degree_of p) p cs → Ready m p cs
-ready_at m p cs d R = subst (λ (k : ℕ). Ready k p cs) (sym d) R
+-- a field that was handed on is ready
+pub tested_ready : (p : ℕ) (cs : List ℕ) (f : Field) → gives (f.polynomial, f.degree) ≡ outcome (equation_tests p cs) (field_of p)
+    → Ready f.degree f.polynomial cs
+tested_ready p cs f e =
+    let g = field_given p f (equation_tests p cs) e in
+    subst₂ (λ (m q : ℕ). Ready m q cs) (sym g.degree) (sym g.polynomial) (equation_ready p cs g.passed)
 
 pub ready_accepted : (p : ℕ) (cs : List ℕ) → Ready (degree_of p) p cs → Accepted p
 ready_accepted p cs R = record { ready = R.field; largest = R.largest }

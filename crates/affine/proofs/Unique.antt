@@ -1,47 +1,48 @@
--- Any two answers that a promise permits are the same one: an answer is got back from what it stands for. Assumes nothing.
-use mathlib.Core.Path.{◌≡◌, refl, ap}
-use mathlib.Core.Bool.{Bool, true, false}
-use Prim.Native.Nat.{ℕ}
-use Rattle.field.specs.Refusal.{Outcome, turned_down, gives}
-use Rattle.field.proofs.Unique.{one_by_back}
-use Rattle.affine.specs.Calls.{Space, Answer}
-use Rattle.affine.specs.Answers.{of_space, of_affine, of_count}
-use Rattle.affine.specs.declared.RootSpace.{RootSpace}
-use Rattle.affine.specs.declared.RootSpace.TheVariants as space
-use Rattle.affine.specs.declared.AffineAnswer.{AffineAnswer}
-use Rattle.affine.specs.declared.CountAnswer.{CountAnswer}
-use Rattle.affine.specs.declared.CountAnswer.TheVariants as count
+-- Any two answers that a promise permits are the same one. Assumes nothing.
+use Rattle.std.proofs.Common.{◌≡◌, ◌≢◌, refl, sym, ap, ap₂, ◌∙◌, subst, arith, true, false, ℕ, ◌≤◌, List}
+use Rattle.std.specs.Prelude.{Result, Ok, Err, Option, Some, None}
+use Rattle.std.proofs.Math.Bridge.{le_prop}
+use Rattle.field.specs.declared.refused.Refusal.{Refusal}
+use Rattle.field.specs.Refusal.{turned_down, gives}
+use Rattle.field.proofs.Unique.{one_refusal}
+use Rattle.linear.specs.Limits.{places}
+use Rattle.affine.specs.Calls.{Answer}
+use Rattle.affine.specs.Answers.{of_roots, of_affine}
+use Rattle.affine.specs.declared.space.RootSpace.{RootSpace}
 
-space_if : Bool → ℕ → RootSpace
-space_if true k = space.Found k
-space_if false k = space.NoRoot
+abbrev space : ℕ → (k : ℕ) → List ℕ → k ≤ places → RootSpace
+space b k ds few = record { base = record { 0 = b }; dimension = k; directions = ds; few = few }
 
-space_back : Outcome Space → RootSpace
-space_back (turned_down n) = space.TurnedDown n
-space_back (gives s) = space_if s.found s.dimension
+-- a space is its base, its dimension and its directions
+one_space : (r s : RootSpace) → r.base.0 ≡ s.base.0 → r.dimension ≡ s.dimension → r.directions ≡ s.directions → r ≡ s
+one_space r s b k ds =
+    subst (λ (n : ℕ). (h : n ≤ places) → r ≡ space r.base.0 n r.directions h) k (λ h. ap (space r.base.0 r.dimension r.directions) (le_prop r.few h)) s.few
+    ∙ ap₂ (λ (x : ℕ) (l : List ℕ). space x s.dimension l s.few) b ds
 
-space_same : (r : RootSpace) → space_back (of_space r) ≡ r
-unfolding space_back space_if
-space_same (space.TurnedDown n) = refl
-space_same space.NoRoot = refl
-space_same (space.Found k) = refl
+-- what an answer is: turned down by a number, without a root, or a space of a dimension
+kind : Answer → ℕ × ℕ
+kind a = elim a.says [ turned_down n ↦ (0, n) | gives s ↦ elim s.found [ true ↦ (1, s.dimension) | false ↦ (2, 0) ] ]
 
-pub one_affine : (r s : AffineAnswer) → of_affine r ≡ of_affine s → r ≡ s
-one_affine = one_by_back of_affine back same
-  where
-    back : Answer → AffineAnswer
-    back a = record { space = space_back a.says; base = record { 0 = a.base }; directions = a.directions }
+apart : {m n : ℕ} → m ≢ n → {A : Type 0} {j k : ℕ} → ◌≡◌ {A = ℕ × ℕ} (m, j) (n, k) → A
+apart h e = absurd (h (ap (λ x. x.0) e))
 
-    same : (r : AffineAnswer) → back (of_affine r) ≡ r
-    same r = ap (λ (x : RootSpace). record { space = x; base = r.base; directions = r.directions }) (space_same r.space)
+one_roots : (r s : Option RootSpace) → of_roots r ≡ of_roots s → r ≡ s
+unfolding kind
+one_roots (Some r) (Some s) e =
+    ap (λ (x : RootSpace). Some x)
+    (one_space r s (ap (λ (a : Answer). a.base) e) (ap (λ (a : Answer). (kind a).1) e) (ap (λ (a : Answer). a.directions) e))
+one_roots (Some r) None e = apart (λ z. omega arith) (ap kind e)
+one_roots None (Some s) e = apart (λ z. omega arith) (ap kind e)
+one_roots None None e = refl
 
-pub one_count : (r s : CountAnswer) → of_count r ≡ of_count s → r ≡ s
-one_count = one_by_back of_count back same
-  where
-    back : Outcome ℕ → CountAnswer
-    back (turned_down n) = count.TurnedDown n
-    back (gives n) = count.Count n
+none-turned_down : (r : Option RootSpace) (s : Refusal) → of_roots r ≡ of_affine (Err s) → ⊥
+unfolding kind
+none-turned_down (Some r) s e = apart (λ z. omega arith) (ap kind e)
+none-turned_down None s e = apart (λ z. omega arith) (ap kind e)
 
-    same : (r : CountAnswer) → back (of_count r) ≡ r
-    same (count.TurnedDown n) = refl
-    same (count.Count n) = refl
+pub one_affine : (r s : Result (Option RootSpace) Refusal) → of_affine r ≡ of_affine s → r ≡ s
+unfolding kind
+one_affine (Ok r) (Ok s) e = ap (λ (x : Option RootSpace). Ok x) (one_roots r s e)
+one_affine (Ok r) (Err s) e = absurd (none-turned_down r s e)
+one_affine (Err r) (Ok s) e = absurd (none-turned_down s r (sym e))
+one_affine (Err r) (Err s) e = ap (λ (x : Refusal). Err x) (one_refusal r s (ap (λ (a : Answer). (kind a).1) e))

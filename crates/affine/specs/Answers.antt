@@ -1,35 +1,20 @@
--- The number and the values that each case of each answer stands for (01, "Numbers a call is turned down by"). Assumes nothing.
-use Rattle.std.specs.Prelude.{Bool, true, false, ℕ, ◌^◌}
-use Rattle.field.specs.Refusal.{Outcome, turned_down, gives}
-use Rattle.linear.specs.declared.inner.solution.Solution.{Solution}
-use Rattle.affine.specs.Calls.{Space, Answer}
-use Rattle.affine.specs.declared.RootSpace.{RootSpace}
-use Rattle.affine.specs.declared.RootSpace.TheVariants as space
-use Rattle.affine.specs.declared.AffineAnswer.{AffineAnswer}
-use Rattle.affine.specs.declared.CountAnswer.{CountAnswer}
-use Rattle.affine.specs.declared.CountAnswer.TheVariants as count
+-- What an answer says: the number that it was turned down by, or its values. Assumes nothing.
+use Rattle.std.specs.Prelude.{Result, Ok, Err, Option, Some, None, true, false, replicate}
+use Rattle.field.specs.Refusal.{gives}
+use Rattle.field.specs.declared.refused.Refusal.{Refusal}
+use Rattle.field.specs.Answers.{number_of}
+use Rattle.linear.specs.Limits.{places}
+use Rattle.affine.specs.Calls.{Answer, refused_answer}
+use Rattle.affine.specs.declared.space.RootSpace.{RootSpace}
 
-abbrev pub of_space : RootSpace → Outcome Space
-of_space (space.TurnedDown n) = turned_down n
-of_space space.NoRoot = gives (record { found = false; dimension = 0 })
-of_space (space.Found k) = gives (record { found = true; dimension = k })
+-- "with no root: k, base and all directions are 0"
+abbrev pub no_root : Answer
+no_root = record { says = gives (record { found = false; dimension = 0 }); base = 0; directions = replicate places 0 }
 
-abbrev pub of_affine : AffineAnswer → Answer
-of_affine a = record { says = of_space a.space; base = a.base.0; directions = a.directions }
+abbrev pub of_roots : Option RootSpace → Answer
+of_roots (Some s) = record { says = gives (record { found = true; dimension = s.dimension }); base = s.base.0; directions = s.directions }
+of_roots None = no_root
 
-abbrev pub of_count : CountAnswer → Outcome ℕ
-of_count (count.TurnedDown n) = turned_down n
-of_count (count.Count n) = gives n
-
--- what an elimination found, so set out
-abbrev pub space_of : Bool → ℕ → Space
-space_of true k = record { found = true; dimension = k }
-space_of false k = record { found = false; dimension = 0 }
-
-abbrev pub answer_of : Solution → Answer
-answer_of s = record { says = gives (space_of s.found s.count); base = s.base; directions = s.directions }
-
--- "2^k in all", and none where there is none
-abbrev pub root_count : Bool → ℕ → ℕ
-root_count true k = 2 ^ k
-root_count false k = 0
+abbrev pub of_affine : Result (Option RootSpace) Refusal → Answer
+of_affine (Ok r) = of_roots r
+of_affine (Err r) = refused_answer (number_of r)

@@ -1,6 +1,6 @@
 -- An affine equation and its roots, by trying every element (01, "Affine equations"). cs are the coefficients, "c first, then l0 up to at
 -- most l(m-1)"; m is the degree of the field polynomial p. Assumes nothing.
-use Rattle.std.specs.Prelude.{Bool, List, ℕ, ◌+◌, ◌^◌, ◌≤◌, ◌<◌, eqb, length, get_or, drop}
+use Rattle.std.specs.Prelude.{Bool, List, Option, ℕ, ◌+◌, ◌^◌, ◌≤◌, ◌<◌, eqb, length, get_or, drop}
 use Rattle.algebra.specs.Lists.{count_up, keep}
 use Rattle.algebra.specs.Search.{first}
 use Rattle.binary.specs.Xor.{◌⊕◌}
@@ -10,8 +10,7 @@ use Rattle.galois.specs.Affine.{linear_at, affine_at}
 use Rattle.arithmetic.specs.Modulus.{FieldModulus}
 use Rattle.linear.specs.Limits.{places}
 use Rattle.linear.specs.Directions.{directions_from, choose}
-use Rattle.linear.specs.declared.inner.solution.Solution.{Solution}
-use Rattle.linear.specs.Solution.{solution_by}
+use Rattle.linear.specs.Solution.{Solutions, solution_by}
 
 -- x is a root: "c + l0·x + l1·x^2 + l2·x^4 + ..." is 0
 unfoldable pub is_root : ℕ → List ℕ → ℕ → Bool
@@ -37,8 +36,8 @@ directions_of m p cs = directions_from (is_direction p cs) m 0
 unfoldable pub root_at : ℕ → ℕ → List ℕ → ℕ → ℕ
 root_at m p cs n = base_of m p cs ⊕ choose (directions_of m p cs) n
 
--- base and directions together, as the elimination gives them
-unfoldable pub solution_of : ℕ → List ℕ → Solution
+-- base and directions together, as the elimination gives them; none without a root
+unfoldable pub solution_of : ℕ → List ℕ → Option Solutions
 solution_of p cs = solution_by (degree_of p) (is_root p cs) (is_direction p cs)
 
 -- what the code asks of an equation: the field, and one to m + 1 coefficients in it

@@ -1,4 +1,3 @@
 // Code that asks something of its caller (each `requires` says what).
-pub mod answer;
 pub mod columns;
 pub mod equation;

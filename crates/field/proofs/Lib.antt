@@ -1,5 +1,5 @@
 pub mod Tests
-mod Answered
+pub mod Answered
 pub mod Coefficients
 pub mod Ready
 pub mod HouseTable

@@ -4,66 +4,64 @@ ghost use Rattle.std.specs.Prelude.{◌≡◌, ◌^◌, ◌≤◌, ◌<◌, leng
 ghost use Rattle.binary.specs.Product.{product};
 ghost use Rattle.galois.specs.Power.{power, squares};
 ghost use Rattle.galois.specs.Polynomial.{Coeffs};
-ghost use Rattle.arithmetic.specs.Modulus.{FieldModulus};
 ghost use Rattle.linear.specs.Limits.{places};
 ghost use Rattle.affine.specs.Columns.{IsColumns, PlusTerm};
 
+use arithmetic::inner::field::Field;
 use binary::inner::digit::power_of_two;
-use binary::inner::modulo::{doubled, product};
 use linear::inner::elimination::PLACES;
 
 // From this exponent on one product is less work than the shifts.
 const MANY_SHIFTS: u32 = 4;
 
 // t times x^n.
-fn shifted(p: u32, m: u32, t: u32, n: u32) -> u32
-    requires { FieldModulus m p × (t < 2 ^ m) }
-    ensures { result ≡ product p t (power p 2 n) }
+fn shifted(field: Field, t: u32, n: u32) -> u32
+    requires { t < 2 ^ field.degree }
+    ensures { result ≡ product field.polynomial t (power field.polynomial 2 n) }
 {
     let mut moved = t;
     for k in 0..n {
-        moved = doubled(p, m, moved);
+        moved = field.doubled(moved);
     }
     moved
 }
 
 // t times x^(2^i), which is `step`: by shifts where they are few.
-fn stepped(p: u32, m: u32, t: u32, i: u32, step: u32) -> u32
-    requires { FieldModulus m p × (t < 2 ^ m) × (step ≡ squares p i 2) }
-    ensures { result ≡ product p t step }
+fn stepped(field: Field, t: u32, i: u32, step: u32) -> u32
+    requires { (t < 2 ^ field.degree) × (step ≡ squares field.polynomial i 2) }
+    ensures { result ≡ product field.polynomial t step }
 {
     if i < MANY_SHIFTS {
-        return shifted(p, m, t, power_of_two(i));
+        return shifted(field, t, power_of_two(i));
     }
-    product(p, m, t, step)
+    field.product(t, step)
 }
 
 // The term l·x^(2^i) added to every column.
-fn with_term(columns: [u32; PLACES], p: u32, m: u32, l: u32, i: u32, step: u32) -> [u32; PLACES]
-    requires { FieldModulus m p × (m ≤ places) × (l < 2 ^ m) × (step ≡ squares p i 2) }
-    ensures { PlusTerm m p l i columns result }
+fn with_term(columns: [u32; PLACES], field: Field, l: u32, i: u32, step: u32) -> [u32; PLACES]
+    requires { (field.degree ≤ places) × (l < 2 ^ field.degree) × (step ≡ squares field.polynomial i 2) }
+    ensures { PlusTerm field.degree field.polynomial l i columns result }
 {
     let mut out = columns;
     let mut t = l;
-    for j in 0..m {
-        let column = out[j as usize];
-        out[j as usize] = column ^ t;
-        t = stepped(p, m, t, i, step);
+    // The next t depends on the last, so that the columns are no `map` of their own.
+    for column in &mut out[..field.degree as usize] {
+        *column ^= t;
+        t = stepped(field, t, i, step);
     }
     out
 }
 
-pub fn columns_of(p: u32, m: u32, linear: &[u32]) -> [u32; PLACES]
-    requires { FieldModulus m p × (m ≤ places) × (length linear.now ≤ m) × Coeffs m linear.now }
-    ensures { IsColumns m p linear.now result }
+pub fn columns_of(field: Field, linear: &[u32]) -> [u32; PLACES]
+    requires { (field.degree ≤ places) × (length linear.now ≤ field.degree) × Coeffs field.degree linear.now }
+    ensures { IsColumns field.degree field.polynomial linear.now result }
 {
     let mut columns: [u32; PLACES] = [0; PLACES];
     let mut step: u32 = 2;
-    for i in 0..linear.len() {
-        let l = linear[i];
-        let next = with_term(columns, p, m, l, i as u32, step);
+    for (i, l) in linear.iter().enumerate() {
+        let next = with_term(columns, field, *l, i as u32, step);
         columns = next;
-        step = product(p, m, step, step);
+        step = field.product(step, step);
     }
     columns
 }

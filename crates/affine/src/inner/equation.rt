@@ -1,34 +1,35 @@
 // An equation's tests, and its solution by elimination.
-ghost use Rattle.std.specs.Prelude.{◌≡◌};
-ghost use Rattle.binary.specs.Factor.{degree_of};
-ghost use Rattle.field.specs.Refusal.{refusal};
+ghost use Rattle.std.specs.Prelude.{◌≡◌, option_map};
+ghost use Rattle.field.specs.Refusal.{outcome};
+ghost use Rattle.field.specs.Answers.{of_field, field_of};
+ghost use Rattle.linear.specs.Values.{solutions};
 ghost use Rattle.affine.specs.Equation.{Ready, solution_of};
 ghost use Rattle.affine.specs.Calls.{equation_tests};
 
 use crate::inner::columns::columns_of;
-use field::inner::refusal::{degree_of, of_list, of_polynomial, wrong_count};
-use linear::inner::solution::{Solution, solved};
+use arithmetic::inner::field::Field;
+use field::Refusal;
+use field::inner::refusal::{accepted, of_list, wrong_count};
+use linear::inner::solution::solved;
+use linear::inner::space::Space;
 use linear::inner::system::rows_of;
 
-// The number that the polynomial or the coefficients are turned down by; 0 where none applies.
-pub fn refusal(p: u32, coefficients: &[u32]) -> u32
-    ensures { result ≡ refusal (equation_tests p coefficients.now) }
+// The field, where the polynomial and the coefficients pass their tests.
+pub fn tested(p: u32, coefficients: &[u32]) -> Result<Field, Refusal>
+    ensures { of_field result ≡ outcome (equation_tests p coefficients.now) (field_of p) }
 {
-    let refused = of_polynomial(p);
-    if refused != 0 {
-        return refused;
-    }
-    let most = (degree_of(p) + 1) as usize;
-    of_list(p, wrong_count(most, coefficients.len()), coefficients)
+    let field = accepted(p)?;
+    let most = (field.degree + 1) as usize;
+    of_list(field, wrong_count(most, coefficients.len()), coefficients)?;
+    Ok(field)
 }
 
 // The roots of an equation that has passed: its matrix by columns, and the elimination.
-pub fn solution(p: u32, coefficients: &[u32]) -> Solution
-    requires { Ready (degree_of p) p coefficients.now }
-    ensures { result ≡ solution_of p coefficients.now }
+pub fn solution(field: Field, coefficients: &[u32]) -> Option<Space>
+    requires { Ready field.degree field.polynomial coefficients.now }
+    ensures { option_map solutions result ≡ solution_of field.polynomial coefficients.now }
 {
-    let m = degree_of(p);
-    let columns = columns_of(p, m, &coefficients[1..]);
-    let rows = rows_of(m, columns, coefficients[0]);
-    solved(m, rows)
+    let columns = columns_of(field, &coefficients[1..]);
+    let rows = rows_of(field.degree, columns, coefficients[0]);
+    solved(field.degree, rows)
 }

@@ -12,7 +12,7 @@ unfolding power
 loop-k-init c =
     let a = c.args in
     let q = c.requires in
-    (omega arith, q.1, sym (product_one a.m a.p q.0.field.irr.degree a.t q.1))
+    (omega arith, q, sym (product_one a.field.degree a.field.polynomial a.field.is_field.field.irr.degree a.t q))
 
 pub loop-k-preserved : goal.loop-k-preserved
 loop-k-preserved c =
@@ -20,7 +20,7 @@ loop-k-preserved c =
     let q = c.requires in
     let l = c.loop-k in
     let e = c.doubled-moved.ensures in
-    (omega arith, rw e (times_x_lt a.m a.p q.0.field.irr.degree _), e ∙ shift_more a.m a.p q.0.field a.t l.k l.moved l.invariant.2)
+    (omega arith, rw e (times_x_lt a.field.degree a.field.polynomial a.field.is_field.field.irr.degree _), e ∙ shift_more a.field.degree a.field.polynomial a.field.is_field.field a.t l.k l.moved l.invariant.2)
 
 pub returns : goal.returns
 returns c =

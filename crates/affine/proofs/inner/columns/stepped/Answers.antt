@@ -10,11 +10,11 @@ pub returns-then-i-lt-MANY_SHIFTS : goal.returns-then-i-lt-MANY_SHIFTS
 returns-then-i-lt-MANY_SHIFTS c =
     let a = c.args in
     let q = c.requires in
-    c.shifted.ensures ∙ ap (λ (k : ℕ). product a.p a.t (power a.p 2 k)) c.power_of_two.ensures
-    ∙ ap (product a.p a.t) (sym (q.2 ∙ step_is a.m a.p q.0.field q.0.modulus a.i))
+    c.shifted.ensures ∙ ap (λ (k : ℕ). product a.field.polynomial a.t (power a.field.polynomial 2 k)) c.power_of_two.ensures
+    ∙ ap (product a.field.polynomial a.t) (sym (q.1 ∙ step_is a.field.degree a.field.polynomial a.field.is_field.field a.field.is_field.modulus a.i))
 
 pub product-requires : goal.product-requires
 product-requires c =
     let a = c.args in
     let q = c.requires in
-    (q.0.modulus, q.1, rw q.2 (step_lt a.m a.p q.0.field q.0.modulus a.i))
+    (q.0, rw q.1 (step_lt a.field.degree a.field.polynomial a.field.is_field.field a.field.is_field.modulus a.i))

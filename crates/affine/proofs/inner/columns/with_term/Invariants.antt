@@ -1,10 +1,7 @@
 -- `with_term` meets its contract. Assumes nothing.
-use Prim.Native.Nat.{◌-◌}
 use Rattle.affine.proofs.Terms.{OneTerm}
 use Rattle.affine.proofs.inner.columns.with_term.Given as goal
 
-abbrev pub invariant-loop-j : goal.invariant-loop-j
-invariant-loop-j l = OneTerm l.m l.p l.l l.step l.initial.out l.out l.t l.j
-
-abbrev pub decreases-loop-j : goal.decreases-loop-j
-decreases-loop-j l = l.m - l.j
+abbrev pub invariant-loop-column : goal.invariant-loop-column
+invariant-loop-column l =
+    OneTerm l.field.degree l.field.polynomial l.l l.step l.initial.column-items l.column-items l.t l.column-index

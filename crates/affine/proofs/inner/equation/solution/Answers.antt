@@ -1,15 +1,13 @@
 -- `solution` meets its contract. Assumes nothing.
-use mathlib.Core.Path.{ap, ◌∙◌}
+use mathlib.Core.Path.{sym, ap, ◌∙◌}
 use Prim.Native.Nat.{ℕ}
 use borrow.Author.Rules.{rules}
 use Rattle.linear.specs.Solution.{solution_by}
 use Rattle.affine.specs.Equation.{is_root, is_direction, solution_of}
-use Rattle.affine.proofs.Tests.{ready_accepted, ready_at, part_is, part_ready}
+use Rattle.binary.proofs.Factor.{degree_is}
+use Rattle.affine.proofs.Tests.{part_is, part_ready}
 use Rattle.affine.proofs.Matrix.{matrix_solution}
 use Rattle.affine.proofs.inner.equation.solution.Goals as goal
-
-pub degree_of-m-requires : goal.degree_of-m-requires
-degree_of-m-requires c = ready_accepted _ c.args.coefficients.now c.requires
 
 pub slice_bounds-columns_of-count : goal.slice_bounds-columns_of-count
 slice_bounds-columns_of-count c =
@@ -23,10 +21,9 @@ slice_bounds-columns_of-start c =
 
 pub columns_of-columns-requires : goal.columns_of-columns-requires
 columns_of-columns-requires c =
-    let a = c.args in
-    let R = ready_at c.degree_of-m.result a.p a.coefficients.now c.degree_of-m.ensures c.requires in
+    let R = c.requires in
     let q = part_ready _ _ _ R in
-    (R.field, R.largest, q.0, q.1)
+    (R.largest, q.0, q.1)
 
 pub bounds-coefficients-0 : goal.bounds-coefficients-0
 bounds-coefficients-0 c =
@@ -34,23 +31,18 @@ bounds-coefficients-0 c =
     search rules
 
 pub rows_of-rows-requires : goal.rows_of-rows-requires
-rows_of-rows-requires c =
-    let a = c.args in
-    (ready_at _ a.p a.coefficients.now c.degree_of-m.ensures c.requires).largest
+rows_of-rows-requires c = c.requires.largest
 
 pub solved-requires : goal.solved-requires
-solved-requires c =
-    let a = c.args in
-    (ready_at _ a.p a.coefficients.now c.degree_of-m.ensures c.requires).largest
+solved-requires c = c.requires.largest
 
 pub returns : goal.returns
 unfolding solution_of
 returns c =
-    let a = c.args in
-    let d = c.degree_of-m.ensures in
-    let cs = a.coefficients.now in
-    let R = ready_at _ a.p cs d c.requires in
-    let k = rw (part_is _ a.p cs R) at c.columns_of-columns.ensures in
+    let f = c.args.field in
+    let cs = c.args.coefficients.now in
+    let R = c.requires in
+    let k = rw (part_is _ f.polynomial cs R) at c.columns_of-columns.ensures in
     c.solved.ensures
-    ∙ matrix_solution _ a.p R.field.field cs R.largest R.small c.columns_of-columns.result _ k c.rows_of-rows.ensures
-    ∙ ap (λ (m : ℕ). solution_by m (is_root a.p cs) (is_direction a.p cs)) d
+    ∙ matrix_solution _ f.polynomial f.is_field.field cs R.largest R.small c.columns_of-columns.result _ k c.rows_of-rows.ensures
+    ∙ ap (λ (m : ℕ). solution_by m (is_root f.polynomial cs) (is_direction f.polynomial cs)) (sym (degree_is _ _ f.is_field.modulus.degree))
