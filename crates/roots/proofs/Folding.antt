@@ -16,8 +16,6 @@ use Rattle.binary.specs.Xor.{◌⊕◌}
 use Rattle.binary.proofs.Xor.{ac, is_xor, xor_lt}
 use Rattle.binary.specs.Product.{product}
 use Rattle.binary.proofs.Product.{xor-product}
-use Rattle.binary.specs.Factor.{degree_of}
-use Rattle.binary.proofs.Factor.{degree_is}
 use Rattle.linear.specs.Limits.{places}
 use Rattle.galois.specs.Field.{Field}
 use Rattle.galois.specs.Power.{squares}
@@ -79,8 +77,8 @@ module _ (m p : ℕ) (F : Field m p) (c l0 l1 l2 : ℕ) where
 
 -- what the solver of affine equations asks
 pub folded_ready : (m p c l0 l1 l2 : ℕ) → FieldModulus m p → m ≤ places → Coeffs m (quartic_of c l0 l1 l2)
-    → affine.Ready (degree_of p) p (folded m c l0 l1 l2)
-folded_ready m p c l0 l1 l2 M l h = rw (degree_is m p M.modulus.degree) (by_two m short long)
+    → affine.Ready m p (folded m c l0 l1 l2)
+folded_ready m p c l0 l1 l2 M l h = by_two m short long
   where
     ready : (cs : List ℕ) → 0 < length cs → length cs ≤ m + 1 → Coeffs m cs → affine.Ready m p cs
     ready cs some few small = record { field = M; largest = l; some = some; few = few; small = small }

@@ -1,5 +1,6 @@
 pub mod Zeros
 pub mod Tests
+pub mod Answered
 pub mod Insertion
 pub mod Division
 pub mod Counting

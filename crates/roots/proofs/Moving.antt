@@ -38,8 +38,8 @@ module _ (m p s : ℕ) (M : FieldModulus m p) (ys : Unsorted) (Y : Fits ys)
   here : get_or list i 0 ≡ get_or ys.list i 0
   here = W.rest i (omega arith)
 
-  pub inverse_ready : i < ys.count → FieldModulus m p × (0 < get_or list i 0) × (get_or list i 0 < 2 ^ m)
-  inverse_ready l = let u = subst (λ (y : ℕ). (0 < y) × (y < 2 ^ m)) (sym here) (unit l) in (M, u.0, u.1)
+  pub inverse_ready : i < ys.count → (0 < get_or list i 0) × (get_or list i 0 < 2 ^ m)
+  inverse_ready l = subst (λ (y : ℕ). (0 < y) × (y < 2 ^ m)) (sym here) (unit l)
 
   pub moved_next : (v : ℕ) → i < ys.count → product p (get_or list i 0) v ≡ 1 → v < 2 ^ m → Moved m p s ys.list (set list i (bit_xor s v)) (i + 1)
   unfolding from_inverse

@@ -10,13 +10,12 @@ use lib.ListN.{length, get_or}
 use lib.Seq.{length-take-le}
 use Rattle.binary.specs.Xor.{◌⊕◌}
 use Rattle.binary.proofs.Xor.{is_xor, xor_lt}
-use Rattle.binary.specs.Product.{product, Modulus}
+use Rattle.binary.specs.Product.{product}
 use Rattle.galois.specs.Power.{power}
 use Rattle.galois.specs.Polynomial.{value}
 use Rattle.galois.specs.Roots.{roots_of}
 use Rattle.galois.proofs.Power.{mul_lt, power_lt}
 use Rattle.galois.proofs.Polynomial.{coeff_at}
-use Rattle.arithmetic.specs.Modulus.{FieldModulus}
 use Rattle.arithmetic.specs.Quotient.{quotient_of}
 use Rattle.arithmetic.proofs.Quotient.{quotient_lt}
 use Rattle.roots.specs.Limits.{most_roots}
@@ -31,20 +30,19 @@ module _ (m p : ℕ) (f : List ℕ) (five : length f ≡ 5) (R : Ready m p f) (n
   small : (i : ℕ) → get_or f i 0 < 2 ^ m
   small i = coeff_at m f i R.small
 
-  pub quotient_ready : FieldModulus m p × (get_or f 1 0 < 2 ^ m) × (0 < get_or f 3 0) × (get_or f 3 0 < 2 ^ m)
-  quotient_ready = (R.field, small 1, positive (get_or f 3 0) n3, small 3)
+  pub quotient_ready : (get_or f 1 0 < 2 ^ m) × (0 < get_or f 3 0) × (get_or f 3 0 < 2 ^ m)
+  quotient_ready = (small 1, positive (get_or f 3 0) n3, small 3)
 
   module _ (q : ℕ) (eq : q ≡ quotient_of m p (get_or f 1 0) (get_or f 3 0)) where
-    pub root_ready : FieldModulus m p × (q < 2 ^ m)
-    root_ready = (R.field, rw eq (quotient_lt m p R.field.field (get_or f 1 0) (get_or f 3 0) (small 1) (positive (get_or f 3 0) n3) (small 3)))
+    pub root_ready : q < 2 ^ m
+    root_ready = rw eq (quotient_lt m p R.field.field (get_or f 1 0) (get_or f 3 0) (small 1) (positive (get_or f 3 0) n3) (small 3))
 
-    pub first_ready : Modulus m p × (q < 2 ^ m) × (get_or f 4 0 < 2 ^ m)
-    first_ready = (R.field.modulus, root_ready.1, small 4)
+    pub first_ready : (q < 2 ^ m) × (get_or f 4 0 < 2 ^ m)
+    first_ready = (root_ready, small 4)
 
-    pub second_ready : (b : ℕ) → b ≡ product p q (get_or f 4 0) → Modulus m p × (q < 2 ^ m) × (bit_xor (get_or f 2 0) b < 2 ^ m)
+    pub second_ready : (b : ℕ) → b ≡ product p q (get_or f 4 0) → (q < 2 ^ m) × (bit_xor (get_or f 2 0) b < 2 ^ m)
     second_ready b e = (
-      R.field.modulus,
-      root_ready.1,
+      root_ready,
       subst (λ (w : ℕ). w < 2 ^ m) (is_xor (get_or f 2 0) b) (xor_lt m (small 2) (rw e (mul_lt m p R.field.field q (get_or f 4 0)))),
     )
 
@@ -56,8 +54,8 @@ module _ (m p : ℕ) (f : List ℕ) (five : length f ≡ 5) (R : Ready m p f) (n
       unfolding shift
       s_is = es ∙ ap (λ (v : ℕ). power p v (2 ^ (m - 1))) eq
 
-      pub shift_ready : Modulus m p × (get_or f 3 0 < 2 ^ m) × (s < 2 ^ m)
-      shift_ready = (R.field.modulus, small 3, s_lt)
+      pub shift_ready : (get_or f 3 0 < 2 ^ m) × (s < 2 ^ m)
+      shift_ready = (small 3, s_lt)
 
       module _ (a b v : ℕ) (ea : a ≡ product p (get_or f 3 0) s) (eb : b ≡ product p q (get_or f 4 0)) (ev : v ≡ product p q (bit_xor (get_or f 2 0) b)) where
         abbrev f5 : List ℕ
@@ -95,8 +93,8 @@ module _ (m p : ℕ) (f : List ℕ) (five : length f ≡ 5) (R : Ready m p f) (n
           ys_are : entries ys ≡ roots_of m p g5
           ys_are = H.0 ∙ ap (roots_of m p) made
 
-          pub shifted_units : FieldModulus m p × Fits ys × Units m (entries ys)
-          shifted_units = (R.field, H.1, subst (Units m) (sym ys_are) (quartic_units m p (get_or f 0 0) (get_or f 1 0) (get_or f 2 0) (get_or f 3 0) (get_or f 4 0) R5 n3 n4))
+          pub shifted_units : Fits ys × Units m (entries ys)
+          shifted_units = (H.1, subst (Units m) (sym ys_are) (quartic_units m p (get_or f 0 0) (get_or f 1 0) (get_or f 2 0) (get_or f 3 0) (get_or f 4 0) R5 n3 n4))
 
           module _ (os : Unsorted) (O : Holds (map (from_inverse m p s) (entries ys)) os) where
             others_are : entries os ≡ map (from_inverse m p s5) (roots_of m p g5)

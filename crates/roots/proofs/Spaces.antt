@@ -1,8 +1,8 @@
 -- At most four solutions: base and two directions list them, and they are the roots (`solutions_are`, `solutions_few`). Assumes nothing.
 use mathlib.Core.Path.{◌≡◌, refl, sym, ap, ◌∙◌}
 use mathlib.Core.List.{List, [], ◌∷◌, map}
-use Prim.Native.Nat.{ℕ, ◌≤◌, ◌<◌}
-use native.Mathlib.Decide.{ℕ_discrete}
+use Prim.Native.Nat.{ℕ, ◌^◌, ◌≤◌}
+use Rattle.std.specs.Prelude.{Some, None}
 use native.Mathlib.Omega.{arith}
 use lib.Bits.{bit_xor}
 use lib.ListN.{length, get_or, take}
@@ -12,16 +12,14 @@ use Rattle.binary.specs.Xor.{◌⊕◌}
 use Rattle.binary.proofs.Xor.{is_xor, xor-zero, xor_assoc}
 use Rattle.binary.specs.Factor.{degree_of}
 use Rattle.binary.proofs.Factor.{degree_is}
-use Rattle.linear.specs.Limits.{places}
 use Rattle.linear.specs.Directions.{choose}
 use Rattle.linear.proofs.Choose.{choose-zero, choose_one, choose_two, choose_three}
-use Rattle.linear.specs.declared.inner.solution.Solution.{Solution}
+use Rattle.linear.specs.Solution.{Solutions}
 use Rattle.galois.specs.Roots.{roots_of}
 use Rattle.galois.proofs.RootList.{roots_few}
 use Rattle.affine.specs.Equation.{all_roots, solution_of}
 use Rattle.affine.specs.Equation as affine
-use Rattle.affine.specs.Answers.{root_count}
-use Rattle.affine.proofs.Found.{count_fits, count_is, listing_is, listing_count}
+use Rattle.affine.proofs.Found.{none_count, count_is, listing_is}
 use Rattle.roots.specs.Limits.{most_roots}
 use Rattle.roots.specs.Equation.{Ready, quartic_of, folded}
 use Rattle.roots.proofs.Folding.{folded_ready, folded_roots}
@@ -53,45 +51,34 @@ four_front : (b : ℕ) (ds : List ℕ) (n : ℕ) → n ≤ 4 → take n (four b 
 four_front b ds n h =
     ap (take n) (four_are b ds) ∙ front_map (λ k. b ⊕ choose ds k) 0 n 4 h
 
-module _ (m p c l0 l1 l2 : ℕ) (R : Ready m p (quartic_of c l0 l1 l2)) (s : Solution) (e : s ≡ solution_of p (folded m c l0 l1 l2)) where
+empty : (l : List ℕ) → length l ≡ 0 → [] ≡ l
+empty [] h = refl
+empty (x ∷ l) h = absurd (omega arith)
+
+module _ (m p c l0 l1 l2 : ℕ) (R : Ready m p (quartic_of c l0 l1 l2)) where
   abbrev cs : List ℕ
   cs = folded m c l0 l1 l2
 
   abbrev rs : List ℕ
   rs = roots_of m p (quartic_of c l0 l1 l2)
 
-  A : affine.Ready (degree_of p) p cs
-  A = folded_ready m p c l0 l1 l2 R.field R.largest R.small
-
-  pub space_fits_lem : s.count ≤ places
-  space_fits_lem = count_fits p cs s e A
-
   all_are : all_roots (degree_of p) p cs ≡ rs
   all_are =
       ap (λ (k : ℕ). all_roots k p cs) (degree_is m p R.field.modulus.degree) ∙ folded_roots m p R.field.field c l0 l1 l2
 
-  count-length : root_count s.found s.count ≡ length rs
-  count-length = count_is p cs s e A ∙ ap length all_are
+  pub no_solutions : None ≡ solution_of p cs → [] ≡ rs
+  no_solutions e = empty rs (sym (ap length all_are) ∙ none_count p cs e)
 
-  pub solutions_few : root_count s.found s.count ≤ most_roots
-  solutions_few = let l = roots_few m p R.field.field (quartic_of c l0 l1 l2) R.small R.nonzero in omega (arith, count-length)
+  module _ (s : Solutions) (e : Some s ≡ solution_of p cs) where
+    A : affine.Ready (degree_of p) p cs
+    A = rw (degree_is m p R.field.modulus.degree) (folded_ready m p c l0 l1 l2 R.field R.largest R.small)
 
-  empty : (l : List ℕ) → length l ≡ 0 → [] ≡ l
-  empty [] h = refl
-  empty (x ∷ l) h = absurd (omega arith)
+    pub solutions_few : 2 ^ s.count ≤ most_roots
+    solutions_few =
+        let l = roots_few m p R.field.field (quartic_of c l0 l1 l2) R.small R.nonzero in
+        omega (arith, count_is p cs s e A ∙ ap length all_are)
 
-  listed : map (λ k. s.base ⊕ choose s.directions k) (count_up 0 (root_count s.found s.count)) ≡ rs
-  listed = go (ℕ_discrete (root_count s.found s.count) 0)
-    where
-      go : Dec (root_count s.found s.count ≡ 0) → map (λ k. s.base ⊕ choose s.directions k) (count_up 0 (root_count s.found s.count)) ≡ rs
-      go (yes z) = ap (λ (n : ℕ). map (λ k. s.base ⊕ choose s.directions k) (count_up 0 n)) z ∙ empty rs (sym count-length ∙ z)
-      go (no n) =
-          let some : 0 < root_count s.found s.count = omega arith in
-          ap (λ (j : ℕ). map (λ k. s.base ⊕ choose s.directions k) (count_up 0 j)) (count_is p cs s e A ∙ sym (listing_count p cs s e A 0 some))
-          ∙ listing_is p cs s e A 0 some ∙ all_are
-
-  pub solutions_are : (n : ℕ) → n ≡ root_count s.found s.count
-      → take n (four s.base (get_or s.directions 0 0) (get_or s.directions 1 0)) ≡ rs
-  solutions_are n q =
-      four_front s.base s.directions n (let l = solutions_few in omega arith)
-      ∙ ap (λ (j : ℕ). map (λ k. s.base ⊕ choose s.directions k) (count_up 0 j)) q ∙ listed
+    pub solutions_are : (n : ℕ) → n ≡ 2 ^ s.count → take n (four s.base (get_or s.directions 0 0) (get_or s.directions 1 0)) ≡ rs
+    solutions_are n q =
+        four_front s.base s.directions n (let l = solutions_few in omega arith)
+        ∙ ap (λ (j : ℕ). map (λ k. s.base ⊕ choose s.directions k) (count_up 0 j)) q ∙ listing_is p cs s e A ∙ all_are

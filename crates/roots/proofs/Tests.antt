@@ -1,10 +1,8 @@
--- The tests of an equation, one after the other (`list_applies`, `zero_applies`, `all_pass`), and what has passed them, or those of roots to
--- build from (`equation_passed`, `five_ready`, `build_passed`); the answer is that of the coefficients in five places (`solved-padded`).
--- Assumes nothing.
-use mathlib.Core.Path.{◌≡◌, refl, sym, ap, ◌∙◌, subst}
-use mathlib.Core.Logic.{◌≢◌}
-use mathlib.Core.Bool.{Bool, true, false, false≢true}
-use mathlib.Core.List.{List, [], ◌∷◌, ◌++◌}
+-- What has passed the tests of an equation, or those of roots to build from (`equation_passed`, `five_ready`, `build_passed`); the answer is
+-- that of the coefficients in five places (`solved-padded`). Assumes nothing.
+use mathlib.Core.Path.{◌≡◌, refl, sym, ◌∙◌, subst}
+use mathlib.Core.Bool.{false, false≢true}
+use mathlib.Core.List.{List}
 use Prim.Native.Nat.{ℕ, ◌-◌, ◌≤◌, ◌<◌}
 use native.Mathlib.Decide.{dec_lt}
 use native.Mathlib.Omega.{arith}
@@ -17,34 +15,14 @@ use Rattle.galois.specs.Polynomial.{Coeffs, AllZero}
 use Rattle.galois.specs.Roots.{roots_of}
 use Rattle.galois.proofs.Padding.{coeffs_pad, zero_pad}
 use Rattle.field.specs.Accepted.{Accepted}
-use Rattle.field.specs.Refusal.{Test, ◌⇒◌, refusal, polynomial_tests, wrong_count, list_tests}
-use Rattle.field.proofs.Tests.{then_kept, then_applies, then_passes, then_say, passes, accepted}
+use Rattle.field.specs.Refusal.{refusal}
+use Rattle.field.proofs.Tests.{passes, accepted}
 use Rattle.field.proofs.Coefficients.{count_some, count_few, coefficients_small}
 use Rattle.field.proofs.Ready.{ready}
 use Rattle.roots.specs.Limits.{most_coefficients, most_roots}
-use Rattle.roots.specs.Calls.{all_zero, equation_tests, build_tests, solved}
+use Rattle.roots.specs.Calls.{equation_tests, build_tests, solved}
 use Rattle.roots.specs.Equation.{Ready}
 use Rattle.roots.proofs.Zeros.{not_all_zero, solved_pad}
-
--- what each test says after those before it, as the code makes them
-module _ (p : ℕ) (cs : List ℕ) (r n : ℕ) (b : Bool) (e : r ≡ refusal (polynomial_tests p)) (z : r ≡ 0)
-    (w : b ≡ wrong_count most_coefficients (length cs)) (l : n ≡ refusal (list_tests p b cs)) where
-  abbrev before : List Test
-  before = polynomial_tests p ++ list_tests p (wrong_count most_coefficients (length cs)) cs
-
-  listed : n ≡ refusal before
-  listed =
-      then_say (polynomial_tests p) (list_tests p (wrong_count most_coefficients (length cs)) cs) r n tt e z
-      (l ∙ ap (λ (c : Bool). refusal (list_tests p c cs)) w)
-
-  pub list_applies : n ≢ 0 → n ≡ refusal (equation_tests p cs)
-  list_applies k = then_kept before (all_zero cs ⇒ 5 ∷ []) n listed k
-
-  pub zero_applies : n ≡ 0 → true ≡ all_zero cs → 5 ≡ refusal (equation_tests p cs)
-  zero_applies k a = then_applies before n 5 (all_zero cs) tt listed k a
-
-  pub all_pass : n ≡ 0 → false ≡ all_zero cs → 0 ≡ refusal (equation_tests p cs)
-  all_pass k a = then_passes before n 5 (all_zero cs) tt listed k a
 
 -- not above its bound
 at_most : (n k : ℕ) → ltb n k ≡ false → k ≤ n

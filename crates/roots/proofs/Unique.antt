@@ -1,50 +1,30 @@
--- Any two answers that a promise permits are the same one (`one_roots`, `one_built`): an answer is got back from what it stands for. Assumes
--- nothing.
-use mathlib.Core.Path.{◌≡◌, refl, ap}
-use Prim.Native.Nat.{ℕ}
-use Rattle.field.specs.Refusal.{Outcome, turned_down, gives}
-use Rattle.field.proofs.Unique.{one_by_back}
+-- Any two answers that a promise permits are the same one (`one_roots`, `one_built`). Assumes nothing.
+use Rattle.std.proofs.Common.{◌≡◌, ◌≢◌, ap, arith, ℕ, List}
+use Rattle.std.specs.Prelude.{Result, Ok, Err}
+use Rattle.field.specs.declared.refused.Refusal.{Refusal}
+use Rattle.field.specs.Refusal.{turned_down, gives}
+use Rattle.field.proofs.Unique.{one_value, one_refusal}
 use Rattle.roots.specs.Calls.{Answer, Built}
-use Rattle.roots.specs.Answers.{of_root_count, of_roots, of_building, of_built}
-use Rattle.roots.specs.declared.RootCount.{RootCount}
-use Rattle.roots.specs.declared.RootCount.TheVariants as count
+use Rattle.roots.specs.Answers.{of_roots, of_built}
 use Rattle.roots.specs.declared.RootsAnswer.{RootsAnswer}
-use Rattle.roots.specs.declared.Building.{Building}
-use Rattle.roots.specs.declared.Building.TheVariants as building
-use Rattle.roots.specs.declared.BuiltAnswer.{BuiltAnswer}
-
-count_back : Outcome ℕ → RootCount
-count_back (turned_down n) = count.TurnedDown n
-count_back (gives k) = count.Solved k
-
-count_same : (r : RootCount) → count_back (of_root_count r) ≡ r
-unfolding count_back
-count_same (count.TurnedDown n) = refl
-count_same (count.Solved k) = refl
 
 pub one_roots : (r s : RootsAnswer) → of_roots r ≡ of_roots s → r ≡ s
-one_roots = one_by_back of_roots back same
-  where
-    back : Answer → RootsAnswer
-    back a = record { count = count_back a.says; roots = a.roots; multiplicities = a.multiplicities }
+one_roots r s e =
+    let c = one_value r.count s.count (ap (λ (a : Answer). a.says) e) in
+    let a = ap (λ (a : Answer). a.roots) e in
+    let b = ap (λ (a : Answer). a.multiplicities) e in
+    λ i. record { count = c i; roots = a i; multiplicities = b i }
 
-    same : (r : RootsAnswer) → back (of_roots r) ≡ r
-    same r = ap (λ (x : RootCount). record { count = x; roots = r.roots; multiplicities = r.multiplicities }) (count_same r.count)
+-- what an answer is: turned down by a number, or built
+kind : Built → ℕ × ℕ
+kind a = elim a.says [ turned_down n ↦ (0, n) | gives u ↦ (1, 0) ]
 
-building_back : Outcome (Unit {0}) → Building
-building_back (turned_down n) = building.TurnedDown n
-building_back (gives u) = building.Built
+apart : {m n : ℕ} → m ≢ n → {A : Type 0} {j k : ℕ} → ◌≡◌ {A = ℕ × ℕ} (m, j) (n, k) → A
+apart h e = absurd (h (ap (λ x. x.0) e))
 
-building_same : (r : Building) → building_back (of_building r) ≡ r
-unfolding building_back
-building_same (building.TurnedDown n) = refl
-building_same building.Built = refl
-
-pub one_built : (r s : BuiltAnswer) → of_built r ≡ of_built s → r ≡ s
-one_built = one_by_back of_built back same
-  where
-    back : Built → BuiltAnswer
-    back a = record { building = building_back a.says; coefficients = a.coefficients }
-
-    same : (r : BuiltAnswer) → back (of_built r) ≡ r
-    same r = ap (λ (x : Building). record { building = x; coefficients = r.coefficients }) (building_same r.building)
+pub one_built : (r s : Result (List ℕ) Refusal) → of_built r ≡ of_built s → r ≡ s
+unfolding kind
+one_built (Ok r) (Ok s) e = ap (λ (l : List ℕ). Ok l) (ap (λ (a : Built). a.coefficients) e)
+one_built (Ok r) (Err s) e = apart (λ z. omega arith) (ap kind e)
+one_built (Err r) (Ok s) e = apart (λ z. omega arith) (ap kind e)
+one_built (Err r) (Err s) e = ap (λ (x : Refusal). Err x) (one_refusal r s (ap (λ (a : Built). (kind a).1) e))

@@ -1,24 +1,14 @@
 -- The number and the values that each case of each answer stands for (01, "Numbers a call is turned down by"). Assumes nothing.
-use Rattle.std.specs.Prelude.{ℕ}
-use Rattle.field.specs.Refusal.{Outcome, turned_down, gives}
-use Rattle.roots.specs.Calls.{Answer, Built}
-use Rattle.roots.specs.declared.RootCount.{RootCount}
-use Rattle.roots.specs.declared.RootCount.TheVariants as count
+use Rattle.std.specs.Prelude.{ℕ, List, Result, Ok, Err}
+use Rattle.field.specs.Refusal.{gives}
+use Rattle.field.specs.declared.refused.Refusal.{Refusal}
+use Rattle.field.specs.Answers.{number_of, of_value}
+use Rattle.roots.specs.Calls.{Answer, Built, refused_built}
 use Rattle.roots.specs.declared.RootsAnswer.{RootsAnswer}
-use Rattle.roots.specs.declared.Building.{Building}
-use Rattle.roots.specs.declared.Building.TheVariants as building
-use Rattle.roots.specs.declared.BuiltAnswer.{BuiltAnswer}
-
-abbrev pub of_root_count : RootCount → Outcome ℕ
-of_root_count (count.TurnedDown n) = turned_down n
-of_root_count (count.Solved k) = gives k
 
 abbrev pub of_roots : RootsAnswer → Answer
-of_roots a = record { says = of_root_count a.count; roots = a.roots; multiplicities = a.multiplicities }
+of_roots a = record { says = of_value a.count; roots = a.roots; multiplicities = a.multiplicities }
 
-abbrev pub of_building : Building → Outcome (Unit {0})
-of_building (building.TurnedDown n) = turned_down n
-of_building building.Built = gives tt
-
-abbrev pub of_built : BuiltAnswer → Built
-of_built a = record { says = of_building a.building; coefficients = a.coefficients }
+abbrev pub of_built : Result (List ℕ) Refusal → Built
+of_built (Ok cs) = record { says = gives tt; coefficients = cs }
+of_built (Err r) = refused_built (number_of r)

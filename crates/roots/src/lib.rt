@@ -12,66 +12,35 @@ pub mod limits;
 use crate::inner::solved::solved;
 use crate::inner::{building, equation};
 use crate::limits::{MOST_COEFFICIENTS, MOST_ROOTS};
-use field::inner::refusal::degree_of;
+use field::Refusal;
 
-// Turned down by its number, or solved with the number of different roots.
-#[derive(Clone, Copy)]
-pub enum RootCount {
-    TurnedDown(u32),
-    Solved(u32),
-}
-
-// The roots, ascending, stand first in their places, each with its multiplicity in the same place; unused places are 0.
-#[derive(Clone, Copy)]
+// The number of different roots, or why the equation is turned down. The roots, ascending, stand first in their places, each with its
+// multiplicity in the same place; unused places are 0.
+#[derive(Clone, Copy, Debug, PartialEq, Eq)]
 pub struct RootsAnswer {
-    pub count: RootCount,
+    pub count: Result<u32, Refusal>,
     pub roots: [u32; MOST_ROOTS],
     pub multiplicities: [u32; MOST_ROOTS],
-}
-
-// Turned down by its number, or built.
-#[derive(Clone, Copy)]
-pub enum Building {
-    TurnedDown(u32),
-    Built,
-}
-
-// The coefficients, constant first, 0 above the degree.
-#[derive(Clone, Copy)]
-pub struct BuiltAnswer {
-    pub building: Building,
-    pub coefficients: [u32; MOST_COEFFICIENTS],
 }
 
 // Every root of the polynomial with these coefficients, constant first, with its multiplicity.
 pub fn solve(p: u32, coefficients: &[u32]) -> RootsAnswer
     ensures { of_roots result ≡ solve_answer p coefficients.now }
 {
-    let refused = equation::refusal(p, coefficients);
-    if refused != 0 {
-        return RootsAnswer {
-            count: RootCount::TurnedDown(refused),
+    match equation::tested(p, coefficients) {
+        Ok(field) => solved(field, coefficients),
+        Err(refusal) => RootsAnswer {
+            count: Err(refusal),
             roots: [0; MOST_ROOTS],
             multiplicities: [0; MOST_ROOTS],
-        };
+        },
     }
-    solved(p, coefficients)
 }
 
-// The coefficients of the product of all (x + r), constant first.
-pub fn build(p: u32, roots: &[u32]) -> BuiltAnswer
+// The coefficients of the product of all (x + r), constant first, 0 above the degree.
+pub fn build(p: u32, roots: &[u32]) -> Result<[u32; MOST_COEFFICIENTS], Refusal>
     ensures { of_built result ≡ build_answer p roots.now }
 {
-    let refused = building::refusal(p, roots);
-    if refused != 0 {
-        return BuiltAnswer {
-            building: Building::TurnedDown(refused),
-            coefficients: [0; MOST_COEFFICIENTS],
-        };
-    }
-    let m = degree_of(p);
-    BuiltAnswer {
-        building: Building::Built,
-        coefficients: building::built(p, m, roots),
-    }
+    let field = building::tested(p, roots)?;
+    Ok(building::built(field, roots))
 }

@@ -1,16 +1,10 @@
 -- `solve` meets its contract. Assumes nothing.
-use mathlib.Core.Path.{sym, ◌∙◌}
-use Rattle.field.proofs.Tests.{refused_by}
-use Rattle.roots.specs.Calls.{equation_tests, refused_answer}
+use Rattle.std.proofs.Common.{◌∙◌}
+use Rattle.roots.proofs.Answered.{equation_given, same_equation}
 use Rattle.roots.proofs.solve.Goals as goal
 
-pub returns-then-refused-ne0 : goal.returns-then-refused-ne0
-returns-then-refused-ne0 c =
-    let a = c.args in
-    refused_by refused_answer _ _ (equation_tests a.p a.coefficients.now) c.refusal-refused.ensures c.if-refused-ne0.true
-
 pub solved-requires : goal.solved-requires
-solved-requires c = sym c.refusal-refused.ensures ∙ c.if-refused-ne0.false
+solved-requires c = equation_given _ _ c.in-Ok.field c.in-Ok.ensures
 
-pub returns : goal.returns
-returns c = c.solved.ensures
+pub returns-in-Ok : goal.returns-in-Ok
+returns-in-Ok c = c.solved.ensures ∙ same_equation _ _ c.in-Ok.field c.in-Ok.ensures

@@ -1,45 +1,41 @@
 // An equation's tests, and its coefficients in five places.
 ghost use Rattle.std.specs.Prelude.{◌≡◌, ◌≤◌, length};
 ghost use Rattle.algebra.specs.Lists.{padded};
-ghost use Rattle.field.specs.Refusal.{refusal};
+ghost use Rattle.field.specs.Refusal.{outcome};
+ghost use Rattle.field.specs.Answers.{of_field, field_of};
 ghost use Rattle.roots.specs.Limits.{most_coefficients};
 ghost use Rattle.roots.specs.Calls.{all_zero, equation_tests};
 
 use crate::limits::MOST_COEFFICIENTS;
-use field::inner::refusal::{of_list, of_polynomial, wrong_count};
-use field::refused;
+use arithmetic::inner::field::Field;
+use field::Refusal;
+use field::inner::refusal::{accepted, of_list, wrong_count};
 
 fn all_zero(coefficients: &[u32]) -> bool
     ensures { result ≡ all_zero coefficients.now }
 {
-    for i in 0..coefficients.len() {
-        if coefficients[i] != 0 {
+    for &c in coefficients {
+        if c != 0 {
             return false;
         }
     }
     true
 }
 
-// The number that the polynomial or the coefficients are turned down by; 0 where none applies.
-pub fn refusal(p: u32, coefficients: &[u32]) -> u32
-    ensures { result ≡ refusal (equation_tests p coefficients.now) }
+// The field, where the polynomial and the coefficients pass their tests.
+pub fn tested(p: u32, coefficients: &[u32]) -> Result<Field, Refusal>
+    ensures { of_field result ≡ outcome (equation_tests p coefficients.now) (field_of p) }
 {
-    let refused = of_polynomial(p);
-    if refused != 0 {
-        return refused;
-    }
-    let refused = of_list(
-        p,
+    let field = accepted(p)?;
+    of_list(
+        field,
         wrong_count(MOST_COEFFICIENTS, coefficients.len()),
         coefficients,
-    );
-    if refused != 0 {
-        return refused;
-    }
+    )?;
     if all_zero(coefficients) {
-        return refused::ALL_ZERO;
+        return Err(Refusal::AllZero);
     }
-    0
+    Ok(field)
 }
 
 // Zeros above the coefficients given change nothing.
@@ -48,8 +44,6 @@ pub fn five(coefficients: &[u32]) -> [u32; MOST_COEFFICIENTS]
     ensures { result ≡ padded most_coefficients coefficients.now }
 {
     let mut out: [u32; MOST_COEFFICIENTS] = [0; MOST_COEFFICIENTS];
-    for i in 0..coefficients.len() {
-        out[i] = coefficients[i];
-    }
+    out[..coefficients.len()].copy_from_slice(coefficients);
     out
 }

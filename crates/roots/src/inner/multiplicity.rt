@@ -4,7 +4,6 @@ ghost use Rattle.algebra.specs.Lists.{padded};
 ghost use Rattle.galois.specs.Polynomial.{Coeffs, AllZero, IsDegree, Root};
 ghost use Rattle.galois.specs.Roots.{roots_of};
 ghost use Rattle.galois.specs.Multiplicity.{multiplicity};
-ghost use Rattle.arithmetic.specs.Modulus.{FieldModulus};
 ghost use Rattle.roots.specs.Limits.{most_roots};
 ghost use Rattle.roots.specs.Equation.{Ready};
 ghost use Rattle.roots.specs.Sorting.{found_of};
@@ -12,7 +11,7 @@ ghost use Rattle.roots.specs.Sorting.{found_of};
 use crate::inner::polynomial::divided;
 use crate::inner::sorting::Found;
 use crate::limits::{MOST_COEFFICIENTS, MOST_ROOTS};
-use binary::inner::modulo::product;
+use arithmetic::inner::field::Field;
 
 // The quotient: the entries after the first, and no coefficient in the last place.
 fn quotient(sums: [u32; MOST_COEFFICIENTS]) -> [u32; MOST_COEFFICIENTS]
@@ -22,13 +21,13 @@ fn quotient(sums: [u32; MOST_COEFFICIENTS]) -> [u32; MOST_COEFFICIENTS]
 }
 
 // One division after the other, until one leaves a remainder.
-fn divisions(p: u32, m: u32, f: [u32; MOST_COEFFICIENTS], r: u32) -> u32
-    requires { FieldModulus m p × Coeffs m f × (r < 2 ^ m) }
-    ensures { result ≡ multiplicity p r f }
+fn divisions(field: Field, f: [u32; MOST_COEFFICIENTS], r: u32) -> u32
+    requires { Coeffs field.degree f × (r < 2 ^ field.degree) }
+    ensures { result ≡ multiplicity field.polynomial r f }
 {
     let mut left = f;
     for k in 0..MOST_COEFFICIENTS {
-        let sums = divided(p, m, left, r);
+        let sums = divided(field, left, r);
         if sums[0] != 0 {
             return k as u32;
         }
@@ -38,14 +37,14 @@ fn divisions(p: u32, m: u32, f: [u32; MOST_COEFFICIENTS], r: u32) -> u32
 }
 
 // At a root r the quotient by x + r has the value of the derivative, c1 + c3·r^2: where that is not 0, x + r divides once (E5).
-fn multiplicity(p: u32, m: u32, f: [u32; MOST_COEFFICIENTS], r: u32) -> u32
-    requires { FieldModulus m p × Coeffs m f × Root m p f r }
-    ensures { result ≡ multiplicity p r f }
+fn multiplicity(field: Field, f: [u32; MOST_COEFFICIENTS], r: u32) -> u32
+    requires { Coeffs field.degree f × Root field.degree field.polynomial f r }
+    ensures { result ≡ multiplicity field.polynomial r f }
 {
-    if f[1] ^ product(p, m, f[3], product(p, m, r, r)) != 0 {
+    if f[1] ^ field.product(f[3], field.product(r, r)) != 0 {
         return 1;
     }
-    divisions(p, m, f, r)
+    divisions(field, f, r)
 }
 
 // The highest coefficient that is not 0.
@@ -75,30 +74,25 @@ fn ones(count: usize) -> [u32; MOST_ROOTS]
     out
 }
 
-fn counted(p: u32, m: u32, f: [u32; MOST_COEFFICIENTS], found: Found) -> [u32; MOST_ROOTS]
-    requires { Ready m p f × (found ≡ found_of (roots_of m p f)) }
-    ensures { result ≡ padded most_roots (map (λ r. multiplicity p r f) (roots_of m p f)) }
+fn counted(field: Field, f: [u32; MOST_COEFFICIENTS], found: Found) -> [u32; MOST_ROOTS]
+    requires { Ready field.degree field.polynomial f × (found ≡ found_of (roots_of field.degree field.polynomial f)) }
+    ensures { result ≡ padded most_roots (map (λ r. multiplicity field.polynomial r f) (roots_of field.degree field.polynomial f)) }
 {
     let roots = found.roots;
     let mut out: [u32; MOST_ROOTS] = [0; MOST_ROOTS];
     for i in 0..found.count {
-        out[i] = multiplicity(p, m, f, roots[i]);
+        out[i] = multiplicity(field, f, roots[i]);
     }
     out
 }
 
 // As many different roots as the degree: then each counts once, and nothing need be divided (E5).
-pub fn multiplicities(
-    p: u32,
-    m: u32,
-    f: [u32; MOST_COEFFICIENTS],
-    found: Found,
-) -> [u32; MOST_ROOTS]
-    requires { Ready m p f × (found ≡ found_of (roots_of m p f)) }
-    ensures { result ≡ padded most_roots (map (λ r. multiplicity p r f) (roots_of m p f)) }
+pub fn multiplicities(field: Field, f: [u32; MOST_COEFFICIENTS], found: Found) -> [u32; MOST_ROOTS]
+    requires { Ready field.degree field.polynomial f × (found ≡ found_of (roots_of field.degree field.polynomial f)) }
+    ensures { result ≡ padded most_roots (map (λ r. multiplicity field.polynomial r f) (roots_of field.degree field.polynomial f)) }
 {
     if found.count == degree(f) {
         return ones(found.count);
     }
-    counted(p, m, f, found)
+    counted(field, f, found)
 }

@@ -4,24 +4,23 @@ ghost use Rattle.field.specs.Refusal.{refusal};
 ghost use Rattle.roots.specs.Answers.{of_roots};
 ghost use Rattle.roots.specs.Calls.{equation_tests, solve_answer};
 
+use crate::RootsAnswer;
 use crate::inner::equation::five;
 use crate::inner::multiplicity::multiplicities;
 use crate::inner::sorting::ascending;
 use crate::inner::unsorted::roots_of;
-use crate::{RootCount, RootsAnswer};
-use field::inner::refusal::degree_of;
+use arithmetic::inner::field::Field;
 
-pub fn solved(p: u32, coefficients: &[u32]) -> RootsAnswer
-    requires { refusal (equation_tests p coefficients.now) ≡ 0 }
-    ensures { of_roots result ≡ solve_answer p coefficients.now }
+pub fn solved(field: Field, coefficients: &[u32]) -> RootsAnswer
+    requires { refusal (equation_tests field.polynomial coefficients.now) ≡ 0 }
+    ensures { of_roots result ≡ solve_answer field.polynomial coefficients.now }
 {
-    let m = degree_of(p);
     let f = five(coefficients);
-    let found = ascending(roots_of(p, m, f));
+    let found = ascending(roots_of(field, f));
     let roots = found.roots;
-    let multiplicities = multiplicities(p, m, f, found);
+    let multiplicities = multiplicities(field, f, found);
     RootsAnswer {
-        count: RootCount::Solved(found.count as u32),
+        count: Ok(found.count as u32),
         roots,
         multiplicities,
     }

@@ -6,13 +6,13 @@ use Rattle.roots.proofs.FromRoots.{building_start, building_small, building_next
 use Rattle.roots.proofs.inner.building.built.Goals as goal
 
 pub loop-i-init : goal.loop-i-init
-loop-i-init c = building_start _ _ c.requires.1
+loop-i-init c = building_start _ _ c.requires.0
 
 pub with_root-next-requires : goal.with_root-next-requires
 with_root-next-requires c =
     let l = c.loop-i in
     let P = c.requires in
-    (P.0, building_small _ _ _ l.i l.invariant _ P.0.field, search rules, coeff_at _ c.args.roots.now _ P.2)
+    (building_small _ _ _ l.i l.invariant _ c.args.field.is_field.field, search rules, coeff_at _ c.args.roots.now _ P.1)
 
 pub loop-i-preserved : goal.loop-i-preserved
 loop-i-preserved c =

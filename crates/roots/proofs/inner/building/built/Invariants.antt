@@ -3,7 +3,7 @@ use Rattle.roots.proofs.FromRoots.{Built}
 use Rattle.roots.proofs.inner.building.built.Given as goal
 
 abbrev pub invariant-loop-i : goal.invariant-loop-i
-invariant-loop-i l = Built l.p l.roots l.f l.i
+invariant-loop-i l = Built l.field.polynomial l.roots l.f l.i
 
 abbrev pub decreases-loop-i : goal.decreases-loop-i
 decreases-loop-i l = l.i

@@ -17,7 +17,7 @@ bounds-roots-i c =
 pub multiplicity-requires : goal.multiplicity-requires
 multiplicity-requires c =
     let P = c.requires in
-    (P.0.field, P.0.small, count_ready _ _ _ P.0 (search rules) _ P.1 c.loop-i.i (search rules))
+    (P.0.small, count_ready _ _ _ P.0 (search rules) _ P.1 c.loop-i.i (search rules))
 
 pub bounds-out-i : goal.bounds-out-i
 bounds-out-i c =

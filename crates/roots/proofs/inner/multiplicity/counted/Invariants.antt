@@ -9,7 +9,7 @@ use Rattle.roots.specs.Limits.{most_roots}
 use Rattle.roots.proofs.inner.multiplicity.counted.Given as goal
 
 abbrev pub invariant-loop-i : goal.invariant-loop-i
-invariant-loop-i l = (l.i ≤ l.i-end) × Filled (λ j. get_or (map (λ r. multiplicity l.p r l.f) (roots_of l.m l.p l.f)) j 0) (replicate most_roots 0) l.out l.i
+invariant-loop-i l = (l.i ≤ l.i-end) × Filled (λ j. get_or (map (λ r. multiplicity l.field.polynomial r l.f) (roots_of l.field.degree l.field.polynomial l.f)) j 0) (replicate most_roots 0) l.out l.i
 
 abbrev pub decreases-loop-i : goal.decreases-loop-i
 decreases-loop-i l = l.i-end - l.i

@@ -6,12 +6,12 @@ use Rattle.roots.proofs.Counting.{counting_start, counting_stop, counting_next, 
 use Rattle.roots.proofs.inner.multiplicity.divisions.Goals as goal
 
 pub loop-k-init : goal.loop-k-init
-loop-k-init c = counting_start _ _ _ _ c.requires.1
+loop-k-init c = counting_start _ _ _ _ c.requires.0
 
 pub divided-sums-requires : goal.divided-sums-requires
 divided-sums-requires c =
     let P = c.requires in
-    (P.0, c.loop-k.invariant.small, P.2)
+    (c.loop-k.invariant.small, P.1)
 
 pub returns-then-sums-ne0 : goal.returns-then-sums-ne0
 returns-then-sums-ne0 c =
@@ -21,8 +21,7 @@ returns-then-sums-ne0 c =
 pub loop-k-preserved : goal.loop-k-preserved
 loop-k-preserved c =
     let l = c.loop-k in
-    let P = c.requires in
-    counting_next _ _ _ _ _ _ l.k (search rules) c.divided-sums.ensures l.invariant P.0.field _ c.if-sums-ne0.false c.quotient-left.ensures
+    counting_next _ _ _ _ _ _ l.k (search rules) c.divided-sums.ensures l.invariant c.args.field.is_field.field _ c.if-sums-ne0.false c.quotient-left.ensures
 
 pub returns : goal.returns
 returns c =

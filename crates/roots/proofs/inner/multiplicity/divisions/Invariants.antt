@@ -5,7 +5,7 @@ use Rattle.roots.proofs.Counting.{Counting}
 use Rattle.roots.proofs.inner.multiplicity.divisions.Given as goal
 
 abbrev pub invariant-loop-k : goal.invariant-loop-k
-invariant-loop-k l = Counting l.m l.p l.r l.initial.left l.left l.k
+invariant-loop-k l = Counting l.field.degree l.field.polynomial l.r l.initial.left l.left l.k
 
 abbrev pub decreases-loop-k : goal.decreases-loop-k
 decreases-loop-k l = most_coefficients - l.k

@@ -11,7 +11,7 @@ pub product-requires : goal.product-requires
 product-requires c =
     let l = c.loop-i in
     let P = c.requires in
-    (P.0.modulus, P.2, dividing_lt _ _ P.0.field _ _ _ l.i P.1 l.invariant)
+    (P.1, dividing_lt _ _ c.args.field.is_field.field _ _ _ l.i P.0 l.invariant)
 
 pub loop-i-preserved : goal.loop-i-preserved
 loop-i-preserved c =

@@ -12,7 +12,7 @@ pub product-requires : goal.product-requires
 product-requires c =
     let l = c.loop-i in
     let P = c.requires in
-    (P.0.modulus, P.3, coeff_at _ c.args.f l.i P.1)
+    (P.2, coeff_at _ c.args.f l.i P.0)
 
 pub loop-i-preserved : goal.loop-i-preserved
 loop-i-preserved c =

@@ -5,12 +5,12 @@ use Rattle.roots.proofs.inner.unsorted.of_cubic.Goals as goal
 pub product-requires : goal.product-requires
 product-requires c =
     let P = c.requires in
-    (P.0.field.modulus, P.0.small.1.0, t_small _ _ _ _ _ _ P.0 P.1 _ c.quotient-t.ensures)
+    (P.0.small.1.0, t_small _ _ _ _ _ _ P.0 P.1 _ c.quotient-t.ensures)
 
 pub product-requires-2 : goal.product-requires-2
 product-requires-2 c =
     let P = c.requires in
-    (P.0.field.modulus, P.0.small.1.1.0, t_small _ _ _ _ _ _ P.0 P.1 _ c.quotient-t.ensures)
+    (P.0.small.1.1.0, t_small _ _ _ _ _ _ P.0 P.1 _ c.quotient-t.ensures)
 
 pub solutions-zs-requires : goal.solutions-zs-requires
 solutions-zs-requires c =
