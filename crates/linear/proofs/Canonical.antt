@@ -1,4 +1,4 @@
--- The base and the directions of 01, "Affine equations" (`Canonical`). Where the roots are one of them moved by each direction, and sums of
+-- The base and the directions of an affine equation (`Canonical`). Where the roots are one of them moved by each direction, and sums of
 -- directions are directions (`Coset`): the searches find them (`is_canonical`), and nothing else is them (`canonical_only`). Assumes nothing.
 use mathlib.Core.Path.{◌≡◌, refl, sym, ap, ◌∙◌, subst}
 use mathlib.Core.Logic.{◌↔◌, ◌≢◌}

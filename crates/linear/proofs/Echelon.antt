@@ -1,4 +1,4 @@
--- Directions as 01 describes them ("Affine equations"), with no search (`Echelon`): their highest bits ascend and are clear in the other
+-- Directions as the scope describes them, with no search (`Echelon`): their highest bits ascend and are clear in the other
 -- entries (`tops_clear`). Of their choices: the bit i of the number that chooses stands at the highest bit of the entry i (`choose-bit`);
 -- a choice has the highest bit of the highest chosen entry (`choose-top`, `choose_degree`); the choices ascend (`choices_ascend`).
 -- Assumes nothing.

@@ -1,4 +1,4 @@
--- Directions by search (01, "Affine equations"): of the numbers that pass a test, the smallest one for each highest bit; and the sum of
+-- Directions by search (those of an affine equation): of the numbers that pass a test, the smallest one for each highest bit; and the sum of
 -- those that the bits of a number choose. Assumes nothing.
 use Rattle.std.specs.Prelude.{Bool, true, false, List, [], ◌∷◌, ℕ, zero, suc, ◌*◌, ◌/◌, ◌%◌, ◌^◌, ltb}
 use Rattle.algebra.specs.Search.{first_from}

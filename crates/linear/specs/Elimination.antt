@@ -1,4 +1,4 @@
--- The elimination of request 7/13: "rows stand by power in the result, lowest first, and stay where they are; columns go from the lowest
+-- The elimination: "rows stand by power in the result, lowest first, and stay where they are; columns go from the lowest
 -- unknown to the highest, the pivot is the first unused row holding the bit, and it is added to every other row that holds it. A column
 -- with no such row is passed over." Assumes nothing.
 use Rattle.std.specs.Prelude.{Bool, true, false, ◌&&◌, List, map, ℕ, ◌*◌, length, get_or, set, replicate, eqb, ltb}

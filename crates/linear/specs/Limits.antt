@@ -1,4 +1,4 @@
--- How far the code goes: so many rows, and so many unknowns, at most (01, "sixteen rows of sixteen bits at most"); and how wide the entries of
+-- How far the code goes: so many rows, and so many unknowns, at most (sixteen rows of sixteen bits); and how wide the entries of
 -- its list are. Assumes nothing.
 use Rattle.std.specs.Prelude.{ℕ}
 

@@ -1,4 +1,4 @@
--- A system given by its columns: "one row for each power in the result" (01). Assumes nothing.
+-- A system given by its columns: one row for each power in the result. Assumes nothing.
 use Rattle.std.specs.Prelude.{List, map, ℕ, zero, suc, ◌*◌, ◌^◌, get_or}
 use Rattle.algebra.specs.Lists.{count_up}
 use Rattle.binary.specs.Xor.{◌⊕◌}

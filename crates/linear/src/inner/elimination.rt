@@ -1,5 +1,5 @@
-// The elimination, in the order that request 7/13 fixes: rows stand by power in the result and stay where they are; columns go from the
-// lowest unknown up; the pivot is the first unused row that holds the bit, and it is added to every other row that holds it.
+// The elimination. Rows stand by power in the result and stay where they are; columns go from the lowest unknown up; the pivot is the
+// first unused row that holds the bit, and it is added to every other row that holds it.
 ghost use Rattle.std.specs.Prelude.{◌≡◌, ◌*◌, ◌≤◌, ◌<◌};
 ghost use Rattle.binary.specs.Xor.{◌⊕◌};
 ghost use Rattle.binary.specs.Bit.{bit};
@@ -43,7 +43,7 @@ pub fn may_pivot(m: u32, mark: u32, row: u32, k: u32) -> bool
     mark == m && bit(row, k) == 1
 }
 
-// The search for the pivot row stands inside the loop over the columns, and yields it by `break`.
+// The search for the pivot row stays a loop inside the loop over the columns, which yields the row by `break`: the scope names this form.
 pub fn eliminated(m: u32, rows: [u32; PLACES]) -> Reduced
     requires { m ≤ places }
     ensures unknowns { result.unknowns ≡ m }

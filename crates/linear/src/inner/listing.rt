@@ -11,18 +11,12 @@ use crate::inner::space::Space;
 // What the list holds: `width` bits.
 pub type Entry = u16;
 
-fn entry(x: u32) -> Entry
-    requires { x < 2 ^ width }
-    ensures { result ≡ x }
-{
-    x as Entry
-}
-
 // The first `size` entries once more after themselves, each with d added.
 fn doubled(list: &mut [Entry], size: usize, d: Entry)
     requires { size + size ≤ length list.old }
     ensures { list.new ≡ paste list.old size (map (λ x. x ⊕ d) list.old) size }
 {
+    // Two places of one list: a copy of the entries, changed where it stands, would go over them twice.
     for i in 0..size {
         list[size + i] = list[i] ^ d;
     }
@@ -34,10 +28,10 @@ impl Space {
         requires { (2 ^ self.now.count ≤ length list.old) × (self.now.base < 2 ^ width) × ((i : ℕ) → i < self.now.count → get_or self.now.directions i 0 < 2 ^ width) }
         ensures { list.new ≡ map (λ k. self.now.base ⊕ choose self.now.directions k) (count_up 0 (2 ^ self.now.count)) ++ drop (2 ^ self.now.count) list.old }
     {
-        list[0] = entry(self.base);
+        list[0] = self.base as Entry;
         let mut size: usize = 1;
         for direction in &self.directions[..self.count] {
-            doubled(list, size, entry(*direction));
+            doubled(list, size, *direction as Entry);
             size *= 2;
         }
     }

@@ -7,7 +7,9 @@ use crate::inner::elimination::{PLACES, may_pivot};
 use crate::inner::space::Space;
 use binary::inner::digit::{bit, picked, power_of_two};
 
-// How many unknowns there are, the rows, and the mark of each row: the column that it is the pivot of, `unknowns` while it is unused.
+// How many unknowns there are, the rows, and the mark of each row: the column that it is the pivot of, `unknowns` while it is unused. (So
+// an unused row reads as a bit that no column has, and no reading of the rows needs a branch, as it would for an Option. Rows stand apart
+// from marks, since the elimination sweeps the rows alone.)
 #[derive(Clone, Copy, Debug, PartialEq, Eq)]
 pub struct Reduced {
     pub unknowns: u32,
@@ -50,8 +52,8 @@ impl Reduced {
         ensures { result ≡ column (state self.now) f places }
     {
         let mut sum = 0;
-        for (i, row) in self.rows.iter().enumerate() {
-            sum ^= picked(bit(*row, f), power_of_two(self.marks[i]));
+        for (row, mark) in self.rows.iter().zip(&self.marks) {
+            sum ^= picked(bit(*row, f), power_of_two(*mark));
         }
         sum
     }

@@ -25,6 +25,7 @@ pub fn rows_of(m: u32, columns: [u32; PLACES], right: u32) -> [u32; PLACES]
 {
     let mut rows = [0; PLACES];
     for (j, column) in columns[..m as usize].iter().enumerate() {
+        // By way of a name: the result of a call laid into `rows` at once has no generated proof yet.
         let next = with_column(rows, *column, j as u32);
         rows = next;
     }

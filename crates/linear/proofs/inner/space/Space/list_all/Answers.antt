@@ -1,5 +1,5 @@
 -- `list_all` meets its contract. Assumes nothing.
-use mathlib.Core.Path.{◌≡◌, ◌∙◌}
+use mathlib.Core.Path.{◌≡◌, refl}
 use Prim.Native.Nat.{◌<◌, ◌≤◌}
 use native.Mathlib.Omega.{arith}
 use lib.ListN.{length}
@@ -10,7 +10,7 @@ use Rattle.linear.proofs.Doubling.{listing_start, listing_turn, listing_room, li
 use Rattle.linear.proofs.inner.space.Space.list_all.Goals as goal
 
 pub loop-direction-init : goal.loop-direction-init
-loop-direction-init c = listing_start _ _ _ c.args.list.now _ c.requires.0 c.entry.ensures
+loop-direction-init c = listing_start _ _ _ c.args.list.now _ c.requires.0 refl
 
 pub doubled-requires : goal.doubled-requires
 doubled-requires c =
@@ -27,7 +27,7 @@ loop-direction-preserved c =
     let room : s.count ≤ length s.directions = omega (arith, long, s.few) in
     let left : l.direction-index < s.count = omega (arith, length-take-le s.count s.directions room) in
     listing_turn l.invariant _ _ left room
-    (c.entry-in-loop-direction.ensures ∙ get_or-take s.count s.directions l.direction-index 0 left) d.auto.list d.ensures
+    (get_or-take s.count s.directions l.direction-index 0 left) d.auto.list d.ensures
 
 pub returns : goal.returns
 returns c =

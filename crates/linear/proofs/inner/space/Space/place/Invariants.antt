@@ -1,9 +1,7 @@
 -- `place` meets its contract: what is added, and what the rest of n still chooses, make the whole. Assumes nothing.
 use mathlib.Core.Path.{◌≡◌}
-use Prim.Native.Nat.{◌≤◌}
 use lib.ListN.{drop}
 use Rattle.binary.specs.Xor.{◌⊕◌}
-use Rattle.linear.specs.Limits.{places}
 use Rattle.linear.specs.Directions.{choose}
 use Rattle.linear.proofs.inner.space.Space.place.Given as goal
 
