@@ -3,5 +3,5 @@
 use mathlib.Core.Path.{◌≡◌}
 use Rattle.frames.specs.declared.Progress.{Progress}
 
-pub one_progress : (a b : Progress) → a.taken ≡ b.taken → a.line.length ≡ b.line.length → a.written ≡ b.written → a ≡ b
-one_progress a b e f g = λ i. record { line = record { length = f i }; taken = e i; written = g i }
+pub one_progress : (a b : Progress) → a.taken ≡ b.taken → a.written ≡ b.written → a ≡ b
+one_progress a b e f = λ i. record { taken = e i; written = f i }

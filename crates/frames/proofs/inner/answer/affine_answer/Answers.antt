@@ -1,0 +1,7 @@
+-- `affine_answer` meets its contract. Assumes nothing.
+use Rattle.std.proofs.Common.{◌∙◌}
+use Rattle.frames.proofs.Answered.{affine_few, affine_case}
+use Rattle.frames.proofs.inner.answer.affine_answer.Goals as goal
+
+pub space-requires-in-Found : goal.space-requires-in-Found
+space-requires-in-Found c = affine_few c.args.answer _ c.in-Found.is c.requires

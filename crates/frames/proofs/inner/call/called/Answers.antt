@@ -1,0 +1,13 @@
+-- `called` meets its contract. Assumes nothing.
+use Rattle.std.proofs.Common.{sym, subst}
+use Rattle.affine.specs.Calls as affine
+use Rattle.roots.specs.Calls as roots
+use Rattle.frames.specs.Answer.{FewRoots, FewDirections}
+use Rattle.frames.proofs.Fitting.{roots_fit_lem, directions_fit}
+use Rattle.frames.proofs.inner.call.called.Goals as goal
+
+pub roots_answer-requires : goal.roots_answer-requires
+roots_answer-requires c = subst (λ (a : roots.Answer). FewRoots a.says) (sym c.solve.ensures) (roots_fit_lem c.args.p c.args.coefficients.now)
+
+pub affine_answer-requires : goal.affine_answer-requires
+affine_answer-requires c = subst (λ (a : affine.Answer). FewDirections a.says) (sym c.solve-in-Affine.ensures) (directions_fit c.args.p c.args.coefficients.now)
