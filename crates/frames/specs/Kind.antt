@@ -1,5 +1,5 @@
 -- The kinds of frames and their bytes. Assumes nothing.
-use Rattle.std.specs.Prelude.{◌≡◌, Bool, true, false, ◌||◌, ℕ, eqb}
+use Rattle.std.specs.Prelude.{◌≡◌, false, ◌||◌, ℕ, eqb}
 use Rattle.frames.specs.declared.inner.kind.Kind.{Kind}
 use Rattle.frames.specs.declared.inner.kind.Kind.TheVariants.{DegreeUpTo4, Affine}
 

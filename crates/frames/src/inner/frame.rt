@@ -1,10 +1,10 @@
 // What a frame line says.
-ghost use Rattle.std.specs.Prelude.{◌≡◌, true, ◌+◌, ◌*◌, ◌≤◌, ◌<◌, length, take, MatchOption, IfSome};
+ghost use Rattle.std.specs.Prelude.{◌≡◌, ◌+◌, ◌*◌, ◌≤◌, ◌<◌, length, take, MatchOption, IfSome};
 ghost use Rattle.algebra.specs.Lists.{padded};
 ghost use Rattle.field.specs.Refusal.{refusal};
 ghost use Rattle.frames.specs.Limits.{most_counted};
-ghost use Rattle.frames.specs.Frame.{byte_at, polynomial_of, count_of, coefficient_at, coefficients_of, another_character, line_tests};
-ghost use Rattle.frames.specs.Digits.{AreDigits};
+ghost use Rattle.frames.specs.Frame.{byte_at, polynomial_of, count_of, coefficient_at, coefficients_of, line_tests};
+ghost use Rattle.frames.specs.Digits.{Decodes};
 
 use crate::inner::character::digit_value;
 use crate::inner::kind::Kind;
@@ -23,8 +23,7 @@ pub struct Frame {
 // Byte number i: two digits. None where one of them is another character.
 fn byte_at(line: &[u8], i: usize) -> Option<u32>
     requires { 2 * i + 1 < length line.now }
-    ensures value { MatchOption result (another_character line.now ≡ true) (λ byte. byte ≡ byte_at line.now i) }
-    ensures digits { IfSome result (λ byte. AreDigits line.now (2 * i) (2 * i + 2)) }
+    ensures decodes { Decodes line.now (2 * i) (2 * i + 2) (byte_at line.now i) result }
     ensures upper_bound { IfSome result (λ byte. byte < 256) }
 {
     Some(digit_value(line[2 * i])? * 16 + digit_value(line[2 * i + 1])?)
@@ -32,16 +31,14 @@ fn byte_at(line: &[u8], i: usize) -> Option<u32>
 
 fn polynomial_of(line: &[u8]) -> Option<u32>
     requires { 10 ≤ length line.now }
-    ensures value { MatchOption result (another_character line.now ≡ true) (λ p. p ≡ polynomial_of line.now) }
-    ensures digits { IfSome result (λ p. AreDigits line.now 2 8) }
+    ensures { Decodes line.now 2 8 (polynomial_of line.now) result }
 {
     Some(byte_at(line, 1)? * 65536 + byte_at(line, 2)? * 256 + byte_at(line, 3)?)
 }
 
 fn coefficient_at(line: &[u8], i: usize) -> Option<u32>
     requires { 13 + 4 * i < length line.now }
-    ensures value { MatchOption result (another_character line.now ≡ true) (λ c. c ≡ coefficient_at line.now i) }
-    ensures digits { IfSome result (λ c. AreDigits line.now (10 + 4 * i) (14 + 4 * i)) }
+    ensures { Decodes line.now (10 + 4 * i) (14 + 4 * i) (coefficient_at line.now i) result }
 {
     Some(byte_at(line, 5 + 2 * i)? * 256 + byte_at(line, 6 + 2 * i)?)
 }
@@ -51,10 +48,10 @@ fn coefficients_of(line: &[u8], count: usize) -> Option<[u32; MOST_COUNTED]>
     requires count_value { count ≡ count_of line.now }
     requires few { count ≤ most_counted }
     requires long { length line.now ≡ 10 + 4 * count }
-    ensures value { MatchOption result (another_character line.now ≡ true) (λ cs. cs ≡ padded most_counted (coefficients_of line.now)) }
-    ensures digits { IfSome result (λ cs. AreDigits line.now 10 (length line.now)) }
+    ensures { Decodes line.now 10 (length line.now) (padded most_counted (coefficients_of line.now)) result }
 {
     let mut coefficients = [0; MOST_COUNTED];
+    // The number i of a coefficient says where it is read as well as where it is put.
     for i in 0..count {
         coefficients[i] = coefficient_at(line, i)?;
     }

@@ -8,7 +8,7 @@ use crate::inner::character::capital;
 use crate::limits::{ANSWER_ROOM, MOST_BYTES};
 use std::marker::Model;
 
-// Each function sees them as a list that grows.
+// Each function sees them as a list that grows. The calls answer with u32; that each value is below 256 is a theorem (`bytes_fit`).
 #[derive(Drop)]
 pub struct AnswerBytes {
     values: [u32; MOST_BYTES],

@@ -1,5 +1,5 @@
 -- `keep` meets its contract. Assumes nothing.
-use Rattle.std.proofs.Common.{arith, rules}
+use Rattle.std.proofs.Common.{arith}
 use Rattle.frames.proofs.Keeping.{kept_between}
 use Rattle.frames.proofs.OpenLine.keep.Goals as goal
 

@@ -1,5 +1,5 @@
 -- `put_answer` meets its contract. Assumes nothing.
-use Rattle.std.proofs.Common.{sym, ap, ◌∙◌, ℕ, List, length, arith, refl}
+use Rattle.std.proofs.Common.{ap, ◌∙◌, ℕ, List, length, arith, refl}
 use Rattle.std.proofs.lemmas.List.Edits.{sets}
 use lib.ListN.{length-set}
 use lib.Seq.{length-sets}

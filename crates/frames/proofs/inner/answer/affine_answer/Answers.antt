@@ -1,6 +1,5 @@
 -- `affine_answer` meets its contract. Assumes nothing.
-use Rattle.std.proofs.Common.{◌∙◌}
-use Rattle.frames.proofs.Answered.{affine_few, affine_case}
+use Rattle.frames.proofs.Answered.{affine_few}
 use Rattle.frames.proofs.inner.answer.affine_answer.Goals as goal
 
 pub space-requires-in-Found : goal.space-requires-in-Found

@@ -1,5 +1,5 @@
 -- `solved` meets its contract. Assumes nothing.
-use Rattle.std.proofs.Common.{◌≡◌, ◌∷◌, [], ◌++◌, ◌+◌, List, ℕ, ap, ap₂, sym, ◌∙◌, refl, length, take, length-append, append_assoc, get_or, arith, length-take, get_or-take}
+use Rattle.std.proofs.Common.{◌≡◌, ◌∷◌, [], ◌++◌, ◌+◌, List, ℕ, ap, ap₂, sym, ◌∙◌, refl, length, take, length-append, append_assoc, arith, length-take, get_or-take}
 use Rattle.std.proofs.lemmas.Slice.Zip.{zip_turn, zip_end}
 use Rattle.frames.specs.Text.{element_bytes, up_to}
 use Rattle.frames.specs.Answer.{root_bytes}

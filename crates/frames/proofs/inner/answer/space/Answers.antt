@@ -1,5 +1,5 @@
 -- `space` meets its contract. Assumes nothing.
-use Rattle.std.proofs.Common.{◌≡◌, ◌∷◌, [], ◌++◌, List, ℕ, ap, ap₂, ◌∙◌, refl, length, get_or, arith, length-take, get_or-take}
+use Rattle.std.proofs.Common.{◌≡◌, ◌∷◌, [], ◌++◌, List, ℕ, ap, ap₂, ◌∙◌, refl, length, arith, length-take, get_or-take}
 use Rattle.frames.specs.Text.{element_bytes, up_to}
 use Rattle.frames.specs.Answer.{direction_bytes, found_byte}
 use Rattle.frames.proofs.Answered.{found_is}
