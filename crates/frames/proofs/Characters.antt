@@ -1,9 +1,9 @@
--- The value of a character: `decimal`, `upper`, `lower`, `no_digit` for each case, and bounds. Assumes nothing.
+-- The value of a character: `decimal`, `upper`, `lower`, `no_digit` for each case, and whether it is one of a row: `inside`, `below`,
+-- `above`. Assumes nothing.
 use mathlib.Core.Path.{◌≡◌, refl}
-use mathlib.Core.Bool.{Bool, true, false, ◌&&◌, false≢true}
+use mathlib.Core.Bool.{true, false}
 use Prim.Native.Nat.{ℕ, ◌+◌, ◌-◌, ◌≤◌, ◌<◌}
-use borrow.Author.Tests.{leb-true, le-leb, lt-leb, lt-ltb, le-ltb}
-use lib.Dec.{leb}
+use borrow.Author.Tests.{le-leb, lt-leb, lt-ltb, le-ltb}
 use Rattle.frames.specs.Frame.{between, digit_value}
 use Rattle.frames.specs.Text.{capital}
 
@@ -23,25 +23,14 @@ pub no_digit : (c : ℕ) → between 48 57 c ≡ false → between 65 70 c ≡ f
 unfolding digit_value
 no_digit c e f g = rw (digit_value, e, f, g) refl
 
-pub between_from : (a z c : ℕ) → between a z c ≡ true → a ≤ c
-between_from a z c e = go (leb a c) refl e
-  where
-    go : (b : Bool) → leb a c ≡ b → (b && leb c z) ≡ true → a ≤ c
-    go true q r = leb-true a c q
-    go false q r = absurd (false≢true r)
+pub inside : (a z c : ℕ) → a ≤ c → c ≤ z → between a z c ≡ true
+inside a z c h l = rw (le-leb a c h, le-leb c z l) refl
 
-pub before_first : (a z c : ℕ) → c < a → false ≡ between a z c
-before_first a z c h = rw (lt-leb a c h) refl
+pub below : (a z c : ℕ) → c < a → between a z c ≡ false
+below a z c h = rw (lt-leb a c h) refl
 
-pub from_first : (a z c : ℕ) → a ≤ c → leb c z ≡ between a z c
-from_first a z c h = rw (le-leb a c h) refl
-
-pub between_to : (a z c : ℕ) → between a z c ≡ true → c ≤ z
-between_to a z c e = go (leb a c) refl e
-  where
-    go : (b : Bool) → leb a c ≡ b → (b && leb c z) ≡ true → c ≤ z
-    go true q r = leb-true c z r
-    go false q r = absurd (false≢true r)
+pub above : (a z c : ℕ) → a ≤ c → z < c → between a z c ≡ false
+above a z c h l = rw (le-leb a c h, lt-leb c z l) refl
 
 pub as_decimal : (d : ℕ) → d < 10 → 48 + d ≡ capital d
 unfolding capital

@@ -3,17 +3,15 @@
 use mathlib.Core.Path.{◌≡◌, sym, ap, ◌∙◌}
 use mathlib.Core.Logic.{◌≢◌}
 use mathlib.Core.List.{List}
-use Prim.Native.Nat.{ℕ, ◌+◌, ◌*◌, ◌/◌, ◌%◌, ◌≤◌, ◌<◌}
+use Prim.Native.Nat.{ℕ, ◌+◌, ◌*◌, ◌/◌, ◌%◌, ◌<◌}
 use native.Mathlib.Nat.{zero-add}
 use native.Mathlib.Omega.{arith}
 use borrow.Author.Tests.{eqb-true, eqb-false, ltb-false, not-false}
 use lib.ListN.{length, get_or, length-map}
-use Rattle.algebra.specs.Lists.{count_up, padded}
+use Rattle.algebra.specs.Lists.{count_up}
 use Rattle.algebra.proofs.CountUp.{count_up-length, map-count_up}
-use Rattle.algebra.proofs.Places.{padded-length}
 use Rattle.field.specs.Refusal.{refusal}
 use Rattle.field.proofs.Tests.{passes}
-use Rattle.frames.specs.Limits.{most_counted}
 use Rattle.frames.specs.Frame.{count_of, coefficient_at, coefficients_of, disagrees, line_tests, WellFormed}
 
 pub coefficient_count : (l : List ℕ) → length (coefficients_of l) ≡ count_of l
@@ -31,13 +29,3 @@ is_well_formed l e =
     let even : length l % 2 ≢ 1 = eqb-false _ _ w.0 in
     let long : length l / 2 ≡ 5 + 2 * count_of l = eqb-true _ _ (not-false _ w.1.1.1.1.0) in
     record { short = ltb-false _ _ w.1.1.1.1.1.1.0; agrees = omega arith }
-
--- they fit their places
-pub count_fits : (l : List ℕ) → WellFormed l → length (coefficients_of l) ≤ most_counted
-count_fits l w = omega (arith, coefficient_count l, w.agrees, w.short)
-
-pub count_within : (l cs : List ℕ) (n : ℕ) → refusal (line_tests l) ≡ 0 → cs ≡ padded most_counted (coefficients_of l) → n ≡ count_of l → n ≤ length cs
-count_within l cs n z e q =
-    let w = is_well_formed l z in
-    let long = ap length e ∙ padded-length most_counted (coefficients_of l) (count_fits l w) in
-    omega (arith, long, coefficient_count l, count_fits l w)

@@ -18,6 +18,13 @@ feed_here b bs e = rw (before_feed, eq-eqb b line_feed e) refl
 pub feed_not_here : (b : ℕ) (bs : List ℕ) → b ≢ line_feed → before_feed (b ∷ bs) ≡ b ∷ before_feed bs
 feed_not_here b bs e = rw (before_feed, ne_eqb b line_feed e) refl
 
+-- how many bytes stand before it
+pub feed_counted : (b : ℕ) (bs : List ℕ) → b ≡ line_feed → length (before_feed (b ∷ bs)) ≡ 0
+feed_counted b bs e = ap length (feed_here b bs e)
+
+pub feed_missed : (b : ℕ) (bs : List ℕ) → b ≢ line_feed → length (before_feed (b ∷ bs)) ≡ length (before_feed bs) + 1
+feed_missed b bs e = ap length (feed_not_here b bs e) ∙ omega arith
+
 -- the first i bytes are none
 abbrev pub FeedFrom : List ℕ → ℕ → Type 0
 FeedFrom chunk i = length (before_feed chunk) ≡ i + length (before_feed (drop i chunk))

@@ -1,12 +1,13 @@
 -- Every answer fits its places: roots (`roots_fit_lem`), directions (`directions_fit`), and the text of an answer its room (`answer_short`).
 -- Assumes nothing.
-use mathlib.Core.Path.{◌≡◌, refl}
+use mathlib.Core.Path.{◌≡◌, refl, sym}
 use mathlib.Core.Bool.{Bool, true, false}
 use mathlib.Core.List.{List, [], ◌∷◌}
 use Prim.Native.Nat.{ℕ, zero, suc, ◌+◌, ◌*◌, ◌^◌, ◌≤◌}
 use native.Mathlib.Omega.{arith}
 use lib.Dec.{eqb}
 use lib.ListN.{length, length-append}
+use lib.Seq.{length-take-le}
 use Rattle.algebra.specs.Search.{some_below}
 use Rattle.binary.specs.Factor.{degree_of}
 use Rattle.linear.specs.Limits.{places}
@@ -20,7 +21,7 @@ use Rattle.roots.specs.Calls as roots
 use Rattle.roots.proofs.Theorems.{count_fits}
 use Rattle.frames.specs.Limits.{answer_room}
 use Rattle.frames.specs.Frame.{kind_of, polynomial_of, coefficients_of, line_tests}
-use Rattle.frames.specs.Text.{text}
+use Rattle.frames.specs.Text.{text, Counts}
 use Rattle.frames.specs.Answer.{root_bytes, direction_bytes, roots_said, roots_bytes, affine_said, affine_bytes, called_bytes, answer_bytes, answer_text, FewRoots, FewDirections}
 use Rattle.frames.specs.Stream.{line_feed, answer_line}
 use Rattle.frames.proofs.Writing.{text-length, up_to_length}
@@ -93,3 +94,7 @@ line_length l r e = omega (arith, e, text-length (answer_bytes l), length-append
 
 pub line_short : (l : List ℕ) → length (answer_line l) ≤ answer_room
 line_short l = omega (arith, line_length l (length (answer_bytes l)) refl, answer_short l)
+
+-- a count of characters that are there
+pub counts_within : (n : ℕ) (out : List ℕ) → n ≤ length out → Counts n out
+counts_within n out h = (h, sym (length-take-le n out h))

@@ -1,5 +1,6 @@
 pub mod Characters
 pub mod Malformed
+pub mod Digits
 pub mod Coefficients
 pub mod Writing
 pub mod Answered

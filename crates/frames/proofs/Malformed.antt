@@ -1,10 +1,12 @@
 -- When a line is malformed: a law for each test that the code makes (`too_long`, `odd_digits`, `few_bytes`, `other_character`, `other_kind`,
--- `wrong_length`), and `well_formed` where none applies. Assumes nothing.
-use mathlib.Core.Path.{◌≡◌, refl, sym, ◌∙◌}
+-- `wrong_length`), and `well_formed` where none applies; the same for the kind and the count that the code has read (`no_kind`, `some_kind`,
+-- `wrong_count`, `right_count`). Assumes nothing.
+use mathlib.Core.Path.{◌≡◌, refl, sym, ap, ◌∙◌}
 use mathlib.Core.Logic.{◌≢◌}
-use mathlib.Core.Bool.{true, false, not, false≢true}
+use mathlib.Core.Bool.{true, false, not, ◌||◌, false≢true}
 use mathlib.Core.List.{List, [], ◌∷◌}
-use Prim.Native.Nat.{ℕ, zero, suc, ◌/◌, ◌%◌, ◌≤◌, ◌<◌}
+use Prim.Native.Nat.{ℕ, zero, suc, ◌+◌, ◌*◌, ◌/◌, ◌%◌, ◌≤◌, ◌<◌}
+use native.Mathlib.Decide.{ℕ_discrete}
 use native.Mathlib.Omega.{arith}
 use borrow.Author.Tests.{lt-ltb, le-ltb, eq-eqb, ne_eqb}
 use lib.Dec.{eqb}
@@ -12,7 +14,10 @@ use lib.ListN.{length}
 use Rattle.field.specs.Refusal.{Test, ◌⇒◌, refusal}
 use Rattle.field.proofs.Tests.{none_applies}
 use Rattle.frames.specs.Limits.{most_digits}
-use Rattle.frames.specs.Frame.{kind_of, another_character, another_kind, disagrees, line_tests}
+use Rattle.frames.specs.Frame.{kind_of, count_of, another_character, another_kind, disagrees, line_tests}
+use Rattle.frames.specs.Kind.{kind_byte, NoKind}
+use Rattle.frames.specs.declared.inner.kind.Kind.{Kind}
+use Rattle.frames.specs.declared.inner.kind.Kind.TheVariants.{DegreeUpTo4, Affine}
 
 -- the test at place i applies
 abbrev Applies : List Test → ℕ → Type 0
@@ -59,10 +64,25 @@ well_formed l few even some digit kind long =
     let full : length l ≢ 0 = λ e. absurd (omega arith) in
     sym (none_applies (line_tests l) (ne_eqb _ _ even, (le-ltb _ _ some, (sym digit, (sym kind, (sym long, (ne_eqb (length l) 0 full, (le-ltb _ _ few, tt))))))))
 
-pub first_kind : (l : List ℕ) (k : ℕ) → k ≡ kind_of l → k ≡ 1 → false ≡ another_kind l
-unfolding another_kind
-first_kind l k e f = rw (another_kind, eq-eqb (kind_of l) 1 (sym e ∙ f)) refl
+-- ---- what the code has read of the kind and the count
 
-pub second_kind : (l : List ℕ) (k : ℕ) → k ≡ kind_of l → k ≢ 1 → not (eqb k 2) ≡ another_kind l
+pub no_kind : (l : List ℕ) (b : ℕ) → b ≡ kind_of l → NoKind b → refusal (line_tests l) ≡ 8
 unfolding another_kind
-second_kind l k e f = rw (another_kind, ne_eqb (kind_of l) 1 (λ q. f (e ∙ q)), e) refl
+no_kind l b e h = sym (other_kind l (sym (ap (λ (k : ℕ). not (eqb k 1 || eqb k 2)) (sym e) ∙ ap not h)))
+
+pub some_kind : (l : List ℕ) (k : Kind) (b : ℕ) → kind_byte k ≡ b → b ≡ kind_of l → another_kind l ≡ false
+unfolding another_kind
+some_kind l DegreeUpTo4 b e f = ap (λ (k : ℕ). not (eqb k 1 || eqb k 2)) (sym (e ∙ f))
+some_kind l Affine b e f = ap (λ (k : ℕ). not (eqb k 1 || eqb k 2)) (sym (e ∙ f))
+
+pub wrong_count : (l : List ℕ) (n : ℕ) → n ≡ count_of l → length l ≢ 10 + 4 * n → refusal (line_tests l) ≡ 8
+unfolding disagrees
+wrong_count l n e h = go (ℕ_discrete (length l % 2) 1)
+  where
+    go : Dec (length l % 2 ≡ 1) → refusal (line_tests l) ≡ 8
+    go (yes odd) = sym (odd_digits l odd)
+    go (no even) = sym (wrong_length l (sym (ap not (ne_eqb (length l / 2) (5 + 2 * count_of l) (λ q. absurd (omega arith))))))
+
+pub right_count : (l : List ℕ) (n : ℕ) → n ≡ count_of l → length l ≡ 10 + 4 * n → disagrees l ≡ false
+unfolding disagrees
+right_count l n e h = ap not (eq-eqb (length l / 2) (5 + 2 * count_of l) (omega arith))

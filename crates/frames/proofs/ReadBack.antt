@@ -2,31 +2,25 @@
 -- same text (`same_text`), and every character of it is a digit (`answer_digits`). On the way: the value of a digit's character is the digit
 -- (`capital-value`), and the same three for the text of any bytes (`text_reads_back`, `text_apart`, `text-digit`). Assumes nothing.
 use mathlib.Core.Path.{◌≡◌, sym, ap, ap₂, ◌∙◌}
-use mathlib.Core.Bool.{true, false}
+use mathlib.Core.Bool.{false}
 use mathlib.Core.List.{List, [], ◌∷◌, ◌++◌}
-use Prim.Native.Nat.{ℕ, zero, suc, ◌+◌, ◌*◌, ◌/◌, ◌%◌, ◌≤◌, ◌<◌}
+use Prim.Native.Nat.{ℕ, zero, suc, ◌+◌, ◌*◌, ◌/◌, ◌%◌, ◌<◌}
 use native.Mathlib.Decide.{dec_lt}
 use native.Mathlib.Omega.{arith}
-use borrow.Author.Tests.{le-leb, lt-leb, ne_eqb}
+use borrow.Author.Tests.{ne_eqb}
 use lib.Dec.{eqb}
 use lib.ListN.{length, get_or}
 use lib.Seq.{ext_get_or}
 use Rattle.algebra.proofs.Search.{some_none}
-use Rattle.frames.specs.Frame.{between, digit_value, byte_at, another_character}
+use Rattle.frames.specs.Frame.{digit_value, byte_at, another_character}
 use Rattle.frames.specs.Text.{capital, digits, text}
 use Rattle.frames.specs.Answer.{answer_bytes, answer_text}
-use Rattle.frames.proofs.Characters.{decimal, upper, from_first, as_decimal, as_letter}
+use Rattle.frames.proofs.Characters.{decimal, upper, inside, above, as_decimal, as_letter}
 use Rattle.frames.proofs.Writing.{text-length}
 use Rattle.frames.proofs.Bytes.{AllBytes}
 use Rattle.frames.proofs.ByteValues.{answer_all}
 
 -- ---- characters
-
-inside : (a z c : ℕ) → a ≤ c → c ≤ z → between a z c ≡ true
-inside a z c h l = sym (from_first a z c h) ∙ le-leb c z l
-
-after_last : (a z c : ℕ) → a ≤ c → z < c → between a z c ≡ false
-after_last a z c h l = sym (from_first a z c h) ∙ lt-leb c z l
 
 pub capital-value : (d : ℕ) → d < 16 → digit_value (capital d) ≡ d
 capital-value d h = go (dec_lt d 10)
@@ -35,7 +29,7 @@ capital-value d h = go (dec_lt d 10)
     go (yes l) = ap digit_value (sym (as_decimal d l)) ∙ sym (decimal (48 + d) (inside 48 57 (48 + d) (omega arith) (omega arith))) ∙ omega arith
     go (no l) =
         ap digit_value (sym (as_letter d (omega arith)))
-        ∙ sym (upper (55 + d) (after_last 48 57 (55 + d) (omega arith) (omega arith)) (inside 65 70 (55 + d) (omega arith) (omega arith)))
+        ∙ sym (upper (55 + d) (above 48 57 (55 + d) (omega arith) (omega arith)) (inside 65 70 (55 + d) (omega arith) (omega arith)))
         ∙ omega arith
 
 -- ---- text

@@ -1,11 +1,11 @@
 -- Text stored into a lent list, piece after piece (`put_then`), and lengths (`text-length`, `text-append`, `up_to_length`). Assumes nothing.
 use mathlib.Core.Path.{◌≡◌, refl, sym, ap, ap₂, ◌∙◌}
-use mathlib.Core.List.{List, [], ◌∷◌, ◌++◌}
-use Prim.Native.Nat.{ℕ, zero, suc, ◌+◌, ◌*◌, ◌/◌, ◌%◌}
+use mathlib.Core.List.{List, [], ◌∷◌, ◌++◌, append_assoc}
+use Prim.Native.Nat.{ℕ, zero, suc, ◌+◌, ◌*◌, ◌/◌, ◌%◌, ◌<◌}
 use native.Mathlib.Nat.{mul-suc}
 use native.Mathlib.Omega.{arith}
-use lib.ListN.{length, set, length-append}
-use lib.Seq.{sets}
+use lib.ListN.{length, get_or, set, take, length-append}
+use lib.Seq.{sets, take-suc, length-take-le}
 use Rattle.frames.specs.Text.{capital, digits, text, up_to, put_bytes}
 
 -- and then more right after them
@@ -46,11 +46,9 @@ pub put_text : (out xs : List ℕ) {end : List ℕ} → end ≡ put_bytes out 0 
 unfolding put_bytes
 put_text out xs e = e
 
--- and a character after it
-pub put_after : (out xs : List ℕ) (n c : ℕ) {end : List ℕ} → n ≡ 2 * length xs → end ≡ put_bytes out 0 xs → set end n c ≡ sets out 0 (text xs ++ c ∷ [])
-put_after out xs n c e f =
-    ap (λ (l : List ℕ). set l n c) (put_text out xs f)
-    ∙ sets_then out (text xs) (c ∷ []) 0 n (e ∙ omega (arith, text-length xs))
+-- and a character after a text
+pub put_last : (out t : List ℕ) (n c : ℕ) {end : List ℕ} → n ≡ length t → end ≡ sets out 0 t → set end n c ≡ sets out 0 (t ++ c ∷ [])
+put_last out t n c e f = ap (λ (l : List ℕ). set l n c) f ∙ sets_then out t (c ∷ []) 0 n (e ∙ omega arith)
 
 -- a byte's two digits, one after the other
 pub put_digits : (out : List ℕ) (j v a b : ℕ) → a ≡ capital (v / 16 % 16) → b ≡ capital (v % 16)
@@ -61,6 +59,15 @@ put_digits out j v a b e f =
     ap (λ (k : ℕ). set (set out (2 * j) a) k b) next
     ∙ ap₂ (λ (x y : ℕ). set (set out (2 * j) x) (suc (2 * j)) y) e f
 
+-- and so the first i bytes of a list become the first i + 1
+pub put_next : (out vs : List ℕ) (i a b : ℕ) {now : List ℕ} → i < length vs → now ≡ put_bytes out 0 (take i vs) → a ≡ capital (get_or vs i 0 / 16 % 16)
+    → b ≡ capital (get_or vs i 0 % 16) → set (set now (2 * i) a) (2 * i + 1) b ≡ put_bytes out 0 (take (i + 1) vs)
+put_next out vs i a b {now} h e f g =
+    let next : suc i ≡ i + 1 = omega arith in
+    let v = get_or vs i 0 in
+    put_then out (take i vs) (v ∷ []) 0 i e (put_digits now i v a b f g) (omega (arith, length-take-le i vs))
+    ∙ ap (put_bytes out 0) (sym (take-suc vs i 0 h) ∙ ap (λ (d : ℕ). take d vs) next)
+
 -- one piece more
 pub put_more : (out : List ℕ) (f : ℕ → List ℕ) (n j i k : ℕ) {mid end : List ℕ} → ((i : ℕ) → length (f i) ≡ n) → mid ≡ put_bytes out j (up_to f i)
     → end ≡ put_bytes mid k (f i) → k ≡ j + n * i → end ≡ put_bytes out j (up_to f (i + 1))
@@ -69,6 +76,8 @@ put_more out f n j i k h e g q =
     put_then out (up_to f i) (f i) j k e g (q ∙ ap (λ (d : ℕ). j + d) (sym (up_to_length f n i h)))
     ∙ ap (λ (d : ℕ). put_bytes out j (up_to f d)) next
 
--- and that is all of them
-pub put_all : (out : List ℕ) (f : ℕ → List ℕ) (j i k : ℕ) {end : List ℕ} → end ≡ put_bytes out j (up_to f i) → i ≡ k → end ≡ put_bytes out j (up_to f k)
-put_all out f j i k e q = e ∙ ap (λ (d : ℕ). put_bytes out j (up_to f d)) q
+-- a list that grows by one piece more
+pub grown : (out : List ℕ) (f : ℕ → List ℕ) (i : ℕ) {mid end : List ℕ} → mid ≡ out ++ up_to f i → end ≡ mid ++ f i → end ≡ out ++ up_to f (i + 1)
+grown out f i e g =
+    let next : suc i ≡ i + 1 = omega arith in
+    g ∙ ap (λ (l : List ℕ). l ++ f i) e ∙ append_assoc out (up_to f i) (f i) ∙ ap (λ (d : ℕ). out ++ up_to f d) next

@@ -12,3 +12,7 @@ most_counted = 255
 -- the longest answer, of kind 02 with sixteen directions: two digits for each of 6 + 2·16 bytes, and its line feed
 abbrev pub answer_room : ℕ
 answer_room = 77
+
+-- its bytes, without their text
+abbrev pub most_bytes : ℕ
+most_bytes = 38

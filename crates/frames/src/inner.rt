@@ -3,6 +3,6 @@ pub mod answer;
 pub mod call;
 pub mod character;
 pub mod frame;
-pub mod malformed;
+pub mod kind;
 pub mod stream;
 pub mod text;

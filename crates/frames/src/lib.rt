@@ -14,22 +14,21 @@ pub mod inner;
 pub mod limits;
 pub mod refused;
 
-use crate::inner::call::put_answer;
-use crate::inner::stream::{kept, put_line, until_feed};
-use crate::inner::text::counted;
+use crate::inner::call::answered;
+use crate::inner::stream::first_feed;
 use crate::limits::{ANSWER_ROOM, MOST_DIGITS};
 
-// A line that has begun: how many bytes it has so far. Its first 1,030 bytes stand in the list that the caller lends to each call; of a
-// longer line, which is malformed whatever it holds, no more is kept, and the length stays at 1,031. A new stream begins with length 0.
-#[derive(Clone, Copy)]
+// A line that has begun: how many bytes it has so far, and the first 1,030 of them. Of a longer line, which is malformed whatever it holds,
+// no more is kept, and the length stays at 1,031.
+#[derive(Debug, Clone, Copy)]
 pub struct OpenLine {
     pub length: usize,
+    pub bytes: [u8; MOST_DIGITS],
 }
 
-// What a call has done: the line as it stands now, how many bytes of the chunk it has taken, and how many characters it has written.
-#[derive(Clone, Copy)]
+// What a call has done: how many bytes of the chunk it has taken, and how many characters it has written.
+#[derive(Debug, Clone, Copy, PartialEq, Eq)]
 pub struct Progress {
-    pub line: OpenLine,
     pub taken: usize,
     pub written: usize,
 }
@@ -41,54 +40,61 @@ pub fn answer_line(line: &[u8], out: &mut [u8; ANSWER_ROOM]) -> usize
     ensures upper_bound { result ≤ answer_room }
     ensures counts { Counts result out.new }
 {
-    let n = 2 * put_answer(out, line);
-    counted(out, n)
+    answered(line).put_text(out)
 }
 
-// Takes the chunk's bytes up to its first line feed, and writes the answer to the line that ends there, with a line feed; or takes all of
-// them, where the line goes on. The caller goes on with what is left of the chunk, until all is taken.
-pub fn next_answer(
-    begun: OpenLine,
-    line: &mut [u8; MOST_DIGITS],
-    chunk: &[u8],
-    out: &mut [u8; ANSWER_ROOM],
-) -> Progress
-    ensures taken_value { result.taken ≡ taken_of chunk.now }
-    ensures length_value { result.line.length ≡ length_after begun.length chunk.now }
-    ensures written_value { result.written ≡ length (written_of begun.length line.old chunk.now) }
-    ensures line_after { line.new ≡ line_after begun.length line.old chunk.now }
-    ensures out_after { out.new ≡ sets out.old 0 (written_of begun.length line.old chunk.now) }
-    ensures taken_in_bounds { (result.taken ≤ length chunk.now) × (result.written ≤ answer_room) }
-    ensures counts { Counts result.written out.new }
-{
-    let end = until_feed(chunk);
-    let length = kept(line, begun.length, &chunk[..end]);
-    if end == chunk.len() {
-        return Progress {
-            line: OpenLine { length },
-            taken: end,
-            written: 0,
-        };
+impl OpenLine {
+    // Before the first byte of a stream.
+    pub fn new() -> Self
+        ensures { result.length ≡ 0 }
+    {
+        OpenLine {
+            length: 0,
+            bytes: [0; MOST_DIGITS],
+        }
     }
-    let n = put_line(out, line, length);
-    let written = counted(out, n);
-    Progress {
-        line: OpenLine { length: 0 },
-        taken: end + 1,
-        written,
-    }
-}
 
-// At the end of the input: the answer to a last line without line feed. Says how many characters it has, 0 where there is no such line.
-pub fn last_answer(begun: OpenLine, line: &[u8; MOST_DIGITS], out: &mut [u8; ANSWER_ROOM]) -> usize
-    ensures value { result ≡ length (last_written begun.length line.now) }
-    ensures out_after { out.new ≡ sets out.old 0 (last_written begun.length line.now) }
-    ensures upper_bound { result ≤ answer_room }
-    ensures counts { Counts result out.new }
-{
-    if begun.length == 0 {
-        return 0;
+    // Takes the chunk's bytes up to its first line feed, and writes the answer to the line that ends there, with a line feed; or takes all
+    // of them, where the line goes on. The caller goes on with what is left of the chunk, until all is taken.
+    pub fn next_answer(&mut self, chunk: &[u8], out: &mut [u8; ANSWER_ROOM]) -> Progress
+        ensures taken_value { result.taken ≡ taken_of chunk.now }
+        ensures length_value { self.new.length ≡ length_after self.old.length chunk.now }
+        ensures written_value { result.written ≡ length (written_of self.old.length self.old.bytes chunk.now) }
+        ensures line_after { self.new.bytes ≡ line_after self.old.length self.old.bytes chunk.now }
+        ensures out_after { out.new ≡ sets out.old 0 (written_of self.old.length self.old.bytes chunk.now) }
+        ensures taken_in_bounds { (result.taken ≤ length chunk.now) × (result.written ≤ answer_room) }
+        ensures counts { Counts result.written out.new }
+    {
+        match first_feed(chunk) {
+            None => {
+                self.keep(chunk);
+                Progress {
+                    taken: chunk.len(),
+                    written: 0,
+                }
+            }
+            Some(end) => {
+                self.keep(&chunk[..end]);
+                let written = self.put_answer(out);
+                self.length = 0;
+                Progress {
+                    taken: end + 1,
+                    written,
+                }
+            }
+        }
     }
-    let n = put_line(out, line, begun.length);
-    counted(out, n)
+
+    // At the end of the input: the answer to a last line without line feed. Says how many characters it has, 0 where there is no such line.
+    pub fn last_answer(&self, out: &mut [u8; ANSWER_ROOM]) -> usize
+        ensures value { result ≡ length (last_written self.now.length self.now.bytes) }
+        ensures out_after { out.new ≡ sets out.old 0 (last_written self.now.length self.now.bytes) }
+        ensures upper_bound { result ≤ answer_room }
+        ensures counts { Counts result out.new }
+    {
+        match self.length {
+            0 => 0,
+            _ => self.put_answer(out),
+        }
+    }
 }

@@ -1,4 +1,4 @@
-// How long lines and answers get (01, "Frame lines").
+// How long lines and answers get.
 pub const MOST_DIGITS: usize = 1030;
 
 // The most coefficients that one byte can count.
@@ -6,3 +6,6 @@ pub const MOST_COUNTED: usize = 255;
 
 // The longest answer and its line feed.
 pub const ANSWER_ROOM: usize = 77;
+
+// The bytes of the longest answer.
+pub const MOST_BYTES: usize = 38;

@@ -1,2 +1,2 @@
-// The number a line is turned down by before any other (01).
+// The number a line is turned down by before any other.
 pub const MALFORMED: u32 = 8;

@@ -1,36 +1,19 @@
 // Hexadecimal characters: the digit that one stands for, and the one that stands for a digit.
-ghost use Rattle.std.specs.Prelude.{◌≡◌, ◌≤◌, ◌<◌};
-ghost use Rattle.frames.specs.Frame.{between, digit_value};
+ghost use Rattle.std.specs.Prelude.{◌≡◌, ◌<◌, IfSome, unwrap_or};
+ghost use Rattle.frames.specs.Frame.{digit_value};
 ghost use Rattle.frames.specs.Text.{capital};
 
-// What stands for a character that is no digit.
-pub const NO_DIGIT: u32 = 16;
-
-fn between(first: u32, last: u32, c: u32) -> bool
-    ensures { result ≡ between first last c }
+// Of either letter case. No other character is a digit.
+pub fn digit_value(c: u8) -> Option<u32>
+    ensures value { unwrap_or result 16 ≡ digit_value c }
+    ensures upper_bound { IfSome result (λ digit. digit < 16) }
 {
-    if c < first {
-        return false;
+    match c {
+        b'0'..=b'9' => Some(u32::from(c - b'0')),
+        b'A'..=b'F' => Some(u32::from(c - b'A') + 10),
+        b'a'..=b'f' => Some(u32::from(c - b'a') + 10),
+        _ => None,
     }
-    c <= last
-}
-
-// Of either letter case.
-pub fn digit_value(c: u8) -> u32
-    ensures value { result ≡ digit_value c }
-    ensures upper_bound { result ≤ 16 }
-{
-    let character = c as u32;
-    if between(48, 57, character) {
-        return character - 48;
-    }
-    if between(65, 70, character) {
-        return character - 55;
-    }
-    if between(97, 102, character) {
-        return character - 87;
-    }
-    NO_DIGIT
 }
 
 // Capitals.
@@ -39,7 +22,8 @@ pub fn capital(digit: u32) -> u8
     ensures { result ≡ capital digit }
 {
     if digit < 10 {
-        return (48 + digit) as u8;
+        b'0' + digit as u8
+    } else {
+        b'A' + (digit - 10) as u8
     }
-    (55 + digit) as u8
 }

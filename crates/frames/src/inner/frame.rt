@@ -1,64 +1,91 @@
 // What a frame line says.
-ghost use Rattle.std.specs.Prelude.{◌≡◌, ◌+◌, ◌*◌, ◌≤◌, ◌<◌, length};
+ghost use Rattle.std.specs.Prelude.{◌≡◌, ◌+◌, ◌*◌, ◌≤◌, ◌<◌, length, take, MatchOption, IfSome};
 ghost use Rattle.algebra.specs.Lists.{padded};
+ghost use Rattle.field.specs.Refusal.{refusal};
 ghost use Rattle.frames.specs.Limits.{most_counted};
-ghost use Rattle.frames.specs.Frame.{byte_at, kind_of, polynomial_of, count_of, coefficient_at, coefficients_of, WellFormed};
+ghost use Rattle.frames.specs.Frame.{byte_at, polynomial_of, count_of, coefficient_at, coefficients_of, line_tests};
+ghost use Rattle.frames.specs.Digits.{Decodes};
 
 use crate::inner::character::digit_value;
-use crate::limits::MOST_COUNTED;
+use crate::inner::kind::Kind;
+use crate::limits::{MOST_COUNTED, MOST_DIGITS};
 
-// The kinds of frames.
-pub const DEGREE_UP_TO_4: u32 = 1;
+// The coefficients stand first in their places.
+#[derive(Drop)]
+pub struct Frame {
+    pub kind: Kind,
+    pub polynomial: u32,
+    count: usize,
+    coefficients: [u32; MOST_COUNTED],
+    ghost counted: { count ≤ most_counted },
+}
 
-pub const AFFINE: u32 = 2;
-
-// Byte number i: two digits.
-pub fn byte_at(line: &[u8], i: usize) -> u32
+// Byte number i: two digits. None where one of them is another character.
+fn byte_at(line: &[u8], i: usize) -> Option<u32>
     requires { 2 * i + 1 < length line.now }
-    ensures value { result ≡ byte_at line.now i }
-    ensures upper_bound { result ≤ 272 }
+    ensures decodes { Decodes line.now (2 * i) (2 * i + 2) (byte_at line.now i) result }
+    ensures upper_bound { IfSome result (λ byte. byte < 256) }
 {
-    digit_value(line[2 * i]) * 16 + digit_value(line[2 * i + 1])
+    Some(digit_value(line[2 * i])? * 16 + digit_value(line[2 * i + 1])?)
 }
 
-pub fn kind_of(line: &[u8]) -> u32
+fn polynomial_of(line: &[u8]) -> Option<u32>
     requires { 10 ≤ length line.now }
-    ensures { result ≡ kind_of line.now }
+    ensures { Decodes line.now 2 8 (polynomial_of line.now) result }
 {
-    byte_at(line, 0)
+    Some(byte_at(line, 1)? * 65536 + byte_at(line, 2)? * 256 + byte_at(line, 3)?)
 }
 
-pub fn polynomial_of(line: &[u8]) -> u32
-    requires { 10 ≤ length line.now }
-    ensures { result ≡ polynomial_of line.now }
-{
-    byte_at(line, 1) * 65536 + byte_at(line, 2) * 256 + byte_at(line, 3)
-}
-
-pub fn count_of(line: &[u8]) -> usize
-    requires { 10 ≤ length line.now }
-    ensures value { result ≡ count_of line.now }
-    ensures upper_bound { result ≤ 272 }
-{
-    byte_at(line, 4) as usize
-}
-
-fn coefficient_at(line: &[u8], i: usize) -> u32
+fn coefficient_at(line: &[u8], i: usize) -> Option<u32>
     requires { 13 + 4 * i < length line.now }
-    ensures { result ≡ coefficient_at line.now i }
+    ensures { Decodes line.now (10 + 4 * i) (14 + 4 * i) (coefficient_at line.now i) result }
 {
-    byte_at(line, 5 + 2 * i) * 256 + byte_at(line, 6 + 2 * i)
+    Some(byte_at(line, 5 + 2 * i)? * 256 + byte_at(line, 6 + 2 * i)?)
 }
 
 // The coefficients, 0 in the places after them.
-pub fn coefficients_of(line: &[u8]) -> [u32; MOST_COUNTED]
-    requires { WellFormed line.now }
-    ensures { result ≡ padded most_counted (coefficients_of line.now) }
+fn coefficients_of(line: &[u8], count: usize) -> Option<[u32; MOST_COUNTED]>
+    requires count_value { count ≡ count_of line.now }
+    requires few { count ≤ most_counted }
+    requires long { length line.now ≡ 10 + 4 * count }
+    ensures { Decodes line.now 10 (length line.now) (padded most_counted (coefficients_of line.now)) result }
 {
-    let mut out: [u32; MOST_COUNTED] = [0; MOST_COUNTED];
-    let end = count_of(line);
-    for i in 0..end {
-        out[i] = coefficient_at(line, i);
+    let mut coefficients = [0; MOST_COUNTED];
+    // The number i of a coefficient says where it is read as well as where it is put.
+    for i in 0..count {
+        coefficients[i] = coefficient_at(line, i)?;
     }
-    out
+    Some(coefficients)
+}
+
+impl Frame {
+    ghost use Rattle.frames.specs.Said.{Says};
+
+    // None where the line is malformed. Of a line longer than the most digits nothing is read.
+    pub fn of_line(line: &[u8]) -> Option<Frame>
+        ensures { MatchOption result (refusal (line_tests line.now) ≡ 8) (Says line.now) }
+    {
+        if line.len() < 10 || MOST_DIGITS < line.len() {
+            return None;
+        }
+        let kind = Kind::of_byte(byte_at(line, 0)?)?;
+        let polynomial = polynomial_of(line)?;
+        let count = byte_at(line, 4)? as usize;
+        if line.len() != 10 + 4 * count {
+            return None;
+        }
+        let coefficients = coefficients_of(line, count)?;
+        Some(Frame {
+            kind,
+            polynomial,
+            count,
+            coefficients,
+        })
+    }
+
+    pub fn coefficients(&self) -> &[u32]
+        ensures { result.now ≡ take self.now.count self.now.coefficients }
+    {
+        &self.coefficients[..self.count]
+    }
 }

@@ -1,57 +1,41 @@
 -- `digit_value` meets its contract. Assumes nothing.
-use mathlib.Core.Path.{sym, ◌∙◌}
-use native.Mathlib.Omega.{arith}
-use Rattle.frames.proofs.Characters.{decimal, upper, lower, no_digit, between_from, between_to}
+use Rattle.std.proofs.Common.{◌∙◌, arith}
+use Rattle.frames.proofs.Characters.{decimal, upper, lower, no_digit, inside, below, above}
 use Rattle.frames.proofs.inner.character.digit_value.Goals as goal
 
-pub overflow_sub-result : goal.overflow_sub-result
-overflow_sub-result c =
-    let w = sym c.between.ensures ∙ c.if-between.true in
-    omega (arith, between_from 48 57 c.args.c w)
+pub returns-in-48-to-57-clause-value : goal.returns-in-48-to-57-clause-value
+returns-in-48-to-57-clause-value c =
+    let x = c.args.c in
+    c.from.ensures ∙ decimal x (inside 48 57 x (omega arith) (omega arith))
 
-pub returns-then-between : goal.returns-then-between
-returns-then-between c =
-    let w = sym c.between.ensures ∙ c.if-between.true in
-    record {
-      value = decimal _ w;
-      upper_bound = omega (arith, between_to 48 57 c.args.c w);
-    }
+pub returns-in-65-to-70-clause-value : goal.returns-in-65-to-70-clause-value
+returns-in-65-to-70-clause-value c =
+    let x = c.args.c in
+    let e = upper x (above 48 57 x (omega arith) (omega arith)) (inside 65 70 x (omega arith) (omega arith)) in
+    omega (arith, e)
 
-pub overflow_sub-result-then-between-2 : goal.overflow_sub-result-then-between-2
-overflow_sub-result-then-between-2 c =
-    let w = sym c.between-2.ensures ∙ c.if-between-2.true in
-    omega (arith, between_from 65 70 c.args.c w)
+pub returns-in-97-to-102-clause-value : goal.returns-in-97-to-102-clause-value
+returns-in-97-to-102-clause-value c =
+    let x = c.args.c in
+    let e = lower x (above 48 57 x (omega arith) (omega arith)) (above 65 70 x (omega arith) (omega arith)) (inside 97 102 x (omega arith) (omega arith)) in
+    omega (arith, e)
 
-pub returns-then-between-2 : goal.returns-then-between-2
-returns-then-between-2 c =
-    let v = sym c.between.ensures ∙ c.if-between.false in
-    let w = sym c.between-2.ensures ∙ c.if-between-2.true in
-    record {
-      value = upper _ v w;
-      upper_bound = omega (arith, between_to 65 70 c.args.c w);
-    }
+pub returns-in_default-clause-value : goal.returns-in_default-clause-value
+returns-in_default-clause-value c =
+    let x = c.args.c in
+    no_digit x (below 48 57 x (omega arith)) (below 65 70 x (omega arith)) (below 97 102 x (omega arith))
 
-pub overflow_sub-result-then-between-3 : goal.overflow_sub-result-then-between-3
-overflow_sub-result-then-between-3 c =
-    let w = sym c.between-3.ensures ∙ c.if-between-3.true in
-    omega (arith, between_from 97 102 c.args.c w)
+pub returns-in_default-2-clause-value : goal.returns-in_default-2-clause-value
+returns-in_default-2-clause-value c =
+    let x = c.args.c in
+    no_digit x (above 48 57 x (omega arith) (omega arith)) (below 65 70 x (omega arith)) (below 97 102 x (omega arith))
 
-pub returns-then-between-3 : goal.returns-then-between-3
-returns-then-between-3 c =
-    let u = sym c.between.ensures ∙ c.if-between.false in
-    let v = sym c.between-2.ensures ∙ c.if-between-2.false in
-    let w = sym c.between-3.ensures ∙ c.if-between-3.true in
-    record {
-      value = lower _ u v w;
-      upper_bound = omega (arith, between_to 97 102 c.args.c w);
-    }
+pub returns-in_default-3-clause-value : goal.returns-in_default-3-clause-value
+returns-in_default-3-clause-value c =
+    let x = c.args.c in
+    no_digit x (above 48 57 x (omega arith) (omega arith)) (above 65 70 x (omega arith) (omega arith)) (below 97 102 x (omega arith))
 
-pub returns : goal.returns
-returns c =
-    let u = sym c.between.ensures ∙ c.if-between.false in
-    let v = sym c.between-2.ensures ∙ c.if-between-2.false in
-    let w = sym c.between-3.ensures ∙ c.if-between-3.false in
-    record {
-      value = no_digit _ u v w;
-      upper_bound = omega arith;
-    }
+pub returns-in_default-4-clause-value : goal.returns-in_default-4-clause-value
+returns-in_default-4-clause-value c =
+    let x = c.args.c in
+    no_digit x (above 48 57 x (omega arith) (omega arith)) (above 65 70 x (omega arith) (omega arith)) (above 97 102 x (omega arith) (omega arith))

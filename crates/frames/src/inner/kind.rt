@@ -1,0 +1,29 @@
+// The kinds of frames.
+ghost use Rattle.std.specs.Prelude.{◌≡◌, MatchOption};
+ghost use Rattle.frames.specs.Kind.{kind_byte, NoKind};
+
+// Each has the value of its byte.
+#[derive(Debug, Clone, Copy, PartialEq, Eq)]
+pub enum Kind {
+    DegreeUpTo4 = 1,
+    Affine = 2,
+}
+
+impl Kind {
+    pub fn byte(self) -> u32
+        ensures { result ≡ kind_byte self }
+    {
+        self as u32
+    }
+
+    // The kind that a byte stands for, if any.
+    pub fn of_byte(byte: u32) -> Option<Kind>
+        ensures { MatchOption result (NoKind byte) (λ kind. kind_byte kind ≡ byte) }
+    {
+        match byte {
+            1 => Some(Kind::DegreeUpTo4),
+            2 => Some(Kind::Affine),
+            _ => None,
+        }
+    }
+}
