@@ -1,6 +1,8 @@
 -- How a call for C answers: by a number, and in the lists that its caller lends. Assumes nothing.
-use Rattle.std.specs.Prelude.{◌≢◌, Bool, true, false, ◌&&◌, List, [], ◌∷◌, ◌++◌, ℕ, zero, suc, leb, length, drop}
+use Rattle.std.specs.Prelude.{Result, Ok, Err, Bool, true, false, ◌&&◌, List, [], ◌∷◌, ◌++◌, ℕ, zero, suc, leb, length, drop}
 use Rattle.field.specs.Refusal.{Outcome, turned_down, gives}
+use Rattle.field.specs.declared.refused.Refusal.{Refusal}
+use Rattle.field.specs.Answers.{number_of}
 use Rattle.linear.specs.Limits.{places}
 use Rattle.roots.specs.Limits.{most_roots}
 use Rattle.affine.specs.Calls.{Space}
@@ -19,6 +21,11 @@ room_number false = 7
 abbrev pub returned : {A : Type 0} → Outcome A → Bool → ℕ
 returned (turned_down n) room = n
 returned (gives v) room = room_number room
+
+-- the number that C is told: 0 where the call has done what it does
+abbrev pub status : Result (Unit {0}) Refusal → ℕ
+status (Ok u) = 0
+status (Err r) = number_of r
 
 -- what stands in a lent list after a call that returned this number: after 0 the values, "entries after them stay untouched"; after any
 -- other "no lent entry is touched"
@@ -51,8 +58,3 @@ space_fits space directions = fits 3 space && fits places directions
 -- the answer's characters, and how many they are
 abbrev pub line_fits : List ℕ → List ℕ → Bool
 line_fits answer count = fits answer_room answer && fits 1 count
-
--- no call is turned down by 0
-abbrev pub Refuses : {A : Type 0} → Outcome A → Type 0
-Refuses (turned_down n) = n ≢ 0
-Refuses (gives v) = Unit {0}

@@ -3,21 +3,15 @@ ghost use Rattle.std.specs.Prelude.{◌≡◌};
 ghost use Rattle.field.specs.Calls.{accept_outcome, sum_outcome, product_outcome, quotient_outcome, power_outcome, square_root_outcome, trace_outcome, number_outcome, element_outcome, power_of_x_outcome, house_outcome};
 ghost use Rattle.firmware.specs.Lent.{fits, returned, after, value_of};
 
-use crate::inner::lent::{put, put_element};
-use field::{
-    DegreeAnswer, Element, Exponent, LogNumber, NumberAnswer, PolynomialAnswer, TraceAnswer,
-};
+use crate::inner::lent::{put_answer, status};
+use field::{Element, Exponent, LogNumber};
 
 // Tests a field polynomial, and gives its degree.
 pub fn gfroots_accept(p: u32, degree: &mut [u32]) -> u32
     ensures value { result ≡ returned (accept_outcome p) (fits 1 degree.old) }
     ensures degree_after { degree.new ≡ after result (value_of (accept_outcome p)) degree.old }
 {
-    let answer = field::accept(p);
-    match answer {
-        DegreeAnswer::TurnedDown(number) => number,
-        DegreeAnswer::Degree(m) => put(m, degree),
-    }
+    status(put_answer(field::accept(p), degree))
 }
 
 // The house's polynomial of a degree.
@@ -25,11 +19,7 @@ pub fn gfroots_house_polynomial(degree: u32, polynomial: &mut [u32]) -> u32
     ensures value { result ≡ returned (house_outcome degree) (fits 1 polynomial.old) }
     ensures polynomial_after { polynomial.new ≡ after result (value_of (house_outcome degree)) polynomial.old }
 {
-    let answer = field::house_polynomial(degree);
-    match answer {
-        PolynomialAnswer::TurnedDown(number) => number,
-        PolynomialAnswer::Polynomial(p) => put(p, polynomial),
-    }
+    status(put_answer(field::house_polynomial(degree), polynomial))
 }
 
 // The exclusive or of two elements.
@@ -37,7 +27,7 @@ pub fn gfroots_sum(p: u32, a: u32, b: u32, element: &mut [u32]) -> u32
     ensures value { result ≡ returned (sum_outcome p a b) (fits 1 element.old) }
     ensures element_after { element.new ≡ after result (value_of (sum_outcome p a b)) element.old }
 {
-    put_element(field::sum(p, Element(a), Element(b)), element)
+    status(put_answer(field::sum(p, Element(a), Element(b)), element))
 }
 
 // The product of two elements, modulo the field polynomial.
@@ -45,7 +35,7 @@ pub fn gfroots_product(p: u32, a: u32, b: u32, element: &mut [u32]) -> u32
     ensures value { result ≡ returned (product_outcome p a b) (fits 1 element.old) }
     ensures element_after { element.new ≡ after result (value_of (product_outcome p a b)) element.old }
 {
-    put_element(field::product(p, Element(a), Element(b)), element)
+    status(put_answer(field::product(p, Element(a), Element(b)), element))
 }
 
 // The one element q with q·b = a.
@@ -53,7 +43,7 @@ pub fn gfroots_quotient(p: u32, a: u32, b: u32, element: &mut [u32]) -> u32
     ensures value { result ≡ returned (quotient_outcome p a b) (fits 1 element.old) }
     ensures element_after { element.new ≡ after result (value_of (quotient_outcome p a b)) element.old }
 {
-    put_element(field::quotient(p, Element(a), Element(b)), element)
+    status(put_answer(field::quotient(p, Element(a), Element(b)), element))
 }
 
 // a to any exponent; a negative one is the power of the inverse.
@@ -61,7 +51,7 @@ pub fn gfroots_power(p: u32, a: u32, exponent: i32, element: &mut [u32]) -> u32
     ensures value { result ≡ returned (power_outcome p a exponent) (fits 1 element.old) }
     ensures element_after { element.new ≡ after result (value_of (power_outcome p a exponent)) element.old }
 {
-    put_element(field::power(p, Element(a), Exponent(exponent)), element)
+    status(put_answer(field::power(p, Element(a), Exponent(exponent)), element))
 }
 
 // The one element that squares to b.
@@ -69,7 +59,7 @@ pub fn gfroots_square_root(p: u32, b: u32, element: &mut [u32]) -> u32
     ensures value { result ≡ returned (square_root_outcome p b) (fits 1 element.old) }
     ensures element_after { element.new ≡ after result (value_of (square_root_outcome p b)) element.old }
 {
-    put_element(field::square_root(p, Element(b)), element)
+    status(put_answer(field::square_root(p, Element(b)), element))
 }
 
 // 0 or 1.
@@ -77,11 +67,7 @@ pub fn gfroots_trace(p: u32, c: u32, trace: &mut [u32]) -> u32
     ensures value { result ≡ returned (trace_outcome p c) (fits 1 trace.old) }
     ensures trace_after { trace.new ≡ after result (value_of (trace_outcome p c)) trace.old }
 {
-    let answer = field::trace(p, Element(c));
-    match answer {
-        TraceAnswer::TurnedDown(number) => number,
-        TraceAnswer::Trace(t) => put(t, trace),
-    }
+    status(put_answer(field::trace(p, Element(c)), trace))
 }
 
 // Element to logarithm number,
@@ -89,11 +75,7 @@ pub fn gfroots_number_of_element(p: u32, a: u32, number: &mut [u32]) -> u32
     ensures value { result ≡ returned (number_outcome p a) (fits 1 number.old) }
     ensures number_after { number.new ≡ after result (value_of (number_outcome p a)) number.old }
 {
-    let answer = field::number_of_element(p, Element(a));
-    match answer {
-        NumberAnswer::TurnedDown(refused) => refused,
-        NumberAnswer::Found(n) => put(n.0, number),
-    }
+    status(put_answer(field::number_of_element(p, Element(a)), number))
 }
 
 // and back.
@@ -101,7 +83,7 @@ pub fn gfroots_element_of_number(p: u32, number: u32, element: &mut [u32]) -> u3
     ensures value { result ≡ returned (element_outcome p number) (fits 1 element.old) }
     ensures element_after { element.new ≡ after result (value_of (element_outcome p number)) element.old }
 {
-    put_element(field::element_of_number(p, LogNumber(number)), element)
+    status(put_answer(field::element_of_number(p, LogNumber(number)), element))
 }
 
 // Exponent to element.
@@ -109,5 +91,5 @@ pub fn gfroots_power_of_x(p: u32, exponent: i32, element: &mut [u32]) -> u32
     ensures value { result ≡ returned (power_of_x_outcome p exponent) (fits 1 element.old) }
     ensures element_after { element.new ≡ after result (value_of (power_of_x_outcome p exponent)) element.old }
 {
-    put_element(field::power_of_x(p, Exponent(exponent)), element)
+    status(put_answer(field::power_of_x(p, Exponent(exponent)), element))
 }

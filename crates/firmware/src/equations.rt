@@ -1,41 +1,37 @@
 // Equations of degree up to 4.
-ghost use Rattle.std.specs.Prelude.{◌≡◌, [], ◌∷◌};
+ghost use Rattle.std.specs.Prelude.{◌≡◌};
 ghost use Rattle.roots.specs.Limits.{most_coefficients};
 ghost use Rattle.roots.specs.Calls.{solve_answer, build_answer};
-ghost use Rattle.firmware.specs.Lent.{fits, returned, after, value_of, roots_fit, room_number};
+ghost use Rattle.roots.specs.Answers.{of_roots, of_built};
+ghost use Rattle.firmware.specs.Lent.{fits, returned, after, value_of, status, roots_fit};
 
-use crate::inner::lent::{put, put_all};
-use field::refused;
+use crate::inner::lent::{put, put_all, status};
+use field::Refusal;
+use roots::RootsAnswer;
 use roots::limits::{MOST_COEFFICIENTS, MOST_ROOTS};
-use roots::{Building, RootCount};
 
-// The roots, each with its multiplicity, in four places each, and how many they are.
+// How many roots there are, and the roots, each with its multiplicity, in four places each.
 fn put_roots(
-    n: u32,
-    found: [u32; MOST_ROOTS],
-    often: [u32; MOST_ROOTS],
+    answer: RootsAnswer,
     count: &mut [u32],
     roots: &mut [u32],
     multiplicities: &mut [u32],
-) -> u32
-    ensures value { result ≡ room_number (roots_fit count.old roots.old multiplicities.old) }
-    ensures count_after { count.new ≡ after result (n ∷ []) count.old }
-    ensures roots_after { roots.new ≡ after result found roots.old }
-    ensures multiplicities_after { multiplicities.new ≡ after result often multiplicities.old }
+) -> Result<(), Refusal>
+    ensures value { status result ≡ returned (of_roots answer).says (roots_fit count.old roots.old multiplicities.old) }
+    ensures count_after { count.new ≡ after (status result) (value_of (of_roots answer).says) count.old }
+    ensures roots_after { roots.new ≡ after (status result) (of_roots answer).roots roots.old }
+    ensures multiplicities_after { multiplicities.new ≡ after (status result) (of_roots answer).multiplicities multiplicities.old }
 {
-    if roots.len() < MOST_ROOTS {
-        return refused::NO_PLACE;
+    let n = answer.count?;
+    if roots.len() < MOST_ROOTS || multiplicities.len() < MOST_ROOTS {
+        return Err(Refusal::NoPlace);
     }
-    if multiplicities.len() < MOST_ROOTS {
-        return refused::NO_PLACE;
-    }
-    let no_room = put(n, count);
-    if no_room != 0 {
-        return no_room;
-    }
+    put(n, count)?;
+    let found = answer.roots;
     put_all(&found, roots);
+    let often = answer.multiplicities;
     put_all(&often, multiplicities);
-    0
+    Ok(())
 }
 
 // Every root of the polynomial with these coefficients, constant first, with its multiplicity.
@@ -52,24 +48,22 @@ pub fn gfroots_solve(
     ensures multiplicities_after { multiplicities.new ≡ after result (solve_answer p coefficients.now).multiplicities multiplicities.old }
 {
     let answer = roots::solve(p, coefficients);
-    let said = answer.count;
-    let found = answer.roots;
-    let often = answer.multiplicities;
-    match said {
-        RootCount::TurnedDown(number) => number,
-        RootCount::Solved(n) => put_roots(n, found, often, count, roots, multiplicities),
-    }
+    status(put_roots(answer, count, roots, multiplicities))
 }
 
-fn put_coefficients(built: [u32; MOST_COEFFICIENTS], coefficients: &mut [u32]) -> u32
-    ensures value { result ≡ room_number (fits most_coefficients coefficients.old) }
-    ensures coefficients_after { coefficients.new ≡ after result built coefficients.old }
+fn put_coefficients(
+    answer: Result<[u32; MOST_COEFFICIENTS], Refusal>,
+    coefficients: &mut [u32],
+) -> Result<(), Refusal>
+    ensures value { status result ≡ returned (of_built answer).says (fits most_coefficients coefficients.old) }
+    ensures coefficients_after { coefficients.new ≡ after (status result) (of_built answer).coefficients coefficients.old }
 {
+    let built = answer?;
     if coefficients.len() < MOST_COEFFICIENTS {
-        return refused::NO_PLACE;
+        return Err(Refusal::NoPlace);
     }
     put_all(&built, coefficients);
-    0
+    Ok(())
 }
 
 // The coefficients of the product of all (x + r), constant first, in five places.
@@ -77,11 +71,5 @@ pub fn gfroots_build(p: u32, roots: &[u32], coefficients: &mut [u32]) -> u32
     ensures value { result ≡ returned (build_answer p roots.now).says (fits most_coefficients coefficients.old) }
     ensures coefficients_after { coefficients.new ≡ after result (build_answer p roots.now).coefficients coefficients.old }
 {
-    let answer = roots::build(p, roots);
-    let said = answer.building;
-    let built = answer.coefficients;
-    match said {
-        Building::TurnedDown(number) => number,
-        Building::Built => put_coefficients(built, coefficients),
-    }
+    status(put_coefficients(roots::build(p, roots), coefficients))
 }
