@@ -6,15 +6,14 @@ use mathlib.Core.List.{List}
 use Prim.Native.Nat.{ℕ}
 use Rattle.field.specs.Refusal.{Outcome, turned_down}
 use Rattle.roots.specs.Calls as roots
-use Rattle.roots.specs.Answers.{of_root_count, of_roots, of_building, of_built}
-use Rattle.roots.specs.declared.RootCount.{RootCount}
+use Rattle.std.specs.Prelude.{Result, Option}
+use Rattle.field.specs.declared.refused.Refusal.{Refusal}
+use Rattle.field.specs.Answers.{of_value}
+use Rattle.roots.specs.Answers.{of_roots, of_built}
 use Rattle.roots.specs.declared.RootsAnswer.{RootsAnswer}
-use Rattle.roots.specs.declared.Building.{Building}
-use Rattle.roots.specs.declared.BuiltAnswer.{BuiltAnswer}
 use Rattle.affine.specs.Calls as affine
-use Rattle.affine.specs.Answers.{of_space, of_affine}
-use Rattle.affine.specs.declared.RootSpace.{RootSpace}
-use Rattle.affine.specs.declared.AffineAnswer.{AffineAnswer}
+use Rattle.affine.specs.Answers.{of_affine}
+use Rattle.affine.specs.declared.space.RootSpace.{RootSpace}
 use Rattle.firmware.specs.Lent.{returned, after, value_of, space_values, Refuses}
 use Rattle.firmware.proofs.Room.{kept}
 
@@ -36,13 +35,13 @@ roots_down a room n count found often e R =
     let d = not_0 a.says n e R in
     (down a.says n room e, (kept n (value_of a.says) count d, (kept n a.roots found d, kept n a.multiplicities often d)))
 
-pub roots_found : (said : RootsAnswer) (count : RootCount) (a : roots.Answer) (room : Bool) (r : ℕ) (number found often number₀ found₀ often₀ : List ℕ)
+pub roots_found : (said : RootsAnswer) (count : Result ℕ Refusal) (a : roots.Answer) (room : Bool) (r : ℕ) (number found often number₀ found₀ often₀ : List ℕ)
     → said.count ≡ count → of_roots said ≡ a
-    → RootsLeft (record { says = of_root_count count; roots = said.roots; multiplicities = said.multiplicities }) room r number found often number₀ found₀ often₀
+    → RootsLeft (record { says = of_value count; roots = said.roots; multiplicities = said.multiplicities }) room r number found often number₀ found₀ often₀
     → RootsLeft a room r number found often number₀ found₀ often₀
 roots_found said count a room r number found often number₀ found₀ often₀ e q h =
     subst (λ (b : roots.Answer). RootsLeft b room r number found often number₀ found₀ often₀)
-    (ap (λ (k : RootCount). record { says = of_root_count k; roots = said.roots; multiplicities = said.multiplicities }) (sym e) ∙ q) h
+    (ap (λ (k : Result ℕ Refusal). record { says = of_value k; roots = said.roots; multiplicities = said.multiplicities }) (sym e) ∙ q) h
 
 -- a call that builds: its number and its list
 abbrev pub BuiltLeft : roots.Built → Bool → ℕ → List ℕ → List ℕ → Type 0
@@ -51,10 +50,9 @@ BuiltLeft a room r list list₀ = (r ≡ returned a.says room) × (list ≡ afte
 pub built_down : (a : roots.Built) (room : Bool) (n : ℕ) (list : List ℕ) → turned_down n ≡ a.says → Refuses a.says → BuiltLeft a room n list list
 built_down a room n list e R = (down a.says n room e, kept n a.coefficients list (not_0 a.says n e R))
 
-pub built_found : (said : BuiltAnswer) (building : Building) (a : roots.Built) (room : Bool) (r : ℕ) (list list₀ : List ℕ) → said.building ≡ building → of_built said ≡ a
-    → BuiltLeft (record { says = of_building building; coefficients = said.coefficients }) room r list list₀ → BuiltLeft a room r list list₀
-built_found said building a room r list list₀ e q h =
-    subst (λ (b : roots.Built). BuiltLeft b room r list list₀) (ap (λ (k : Building). record { says = of_building k; coefficients = said.coefficients }) (sym e) ∙ q) h
+pub built_found : (said : Result (List ℕ) Refusal) (a : roots.Built) (room : Bool) (r : ℕ) (list list₀ : List ℕ) → of_built said ≡ a
+    → BuiltLeft (of_built said) room r list list₀ → BuiltLeft a room r list list₀
+built_found said a room r list list₀ q h = subst (λ (b : roots.Built). BuiltLeft b room r list list₀) q h
 
 -- a call for an affine equation: its number and its two lists
 abbrev pub SpaceLeft : affine.Answer → Bool → ℕ → List ℕ → List ℕ → List ℕ → List ℕ → Type 0
@@ -67,9 +65,7 @@ space_down a room n space steps e R =
     let d = not_0 a.says n e R in
     (down a.says n room e, (kept n (space_values a.says a.base) space d, kept n a.directions steps d))
 
-pub space_found : (said : AffineAnswer) (kind : RootSpace) (a : affine.Answer) (room : Bool) (r : ℕ) (space steps space₀ steps₀ : List ℕ) → said.space ≡ kind → of_affine said ≡ a
-    → SpaceLeft (record { says = of_space kind; base = said.base.0; directions = said.directions }) room r space steps space₀ steps₀
-    → SpaceLeft a room r space steps space₀ steps₀
-space_found said kind a room r space steps space₀ steps₀ e q h =
-    subst (λ (b : affine.Answer). SpaceLeft b room r space steps space₀ steps₀)
-    (ap (λ (k : RootSpace). record { says = of_space k; base = said.base.0; directions = said.directions }) (sym e) ∙ q) h
+pub space_found : (said : Result (Option RootSpace) Refusal) (a : affine.Answer) (room : Bool) (r : ℕ) (space steps space₀ steps₀ : List ℕ) → of_affine said ≡ a
+    → SpaceLeft (of_affine said) room r space steps space₀ steps₀ → SpaceLeft a room r space steps space₀ steps₀
+space_found said a room r space steps space₀ steps₀ q h =
+    subst (λ (b : affine.Answer). SpaceLeft b room r space steps space₀ steps₀) q h

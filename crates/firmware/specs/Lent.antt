@@ -1,5 +1,5 @@
 -- How a call for C answers: by a number, and in the lists that its caller lends. Assumes nothing.
-use Rattle.std.specs.Prelude.{Result, Ok, Err, Bool, true, false, ◌&&◌, List, [], ◌∷◌, ◌++◌, ℕ, zero, suc, leb, length, drop}
+use Rattle.std.specs.Prelude.{◌≢◌, Result, Ok, Err, Bool, true, false, ◌&&◌, List, [], ◌∷◌, ◌++◌, ℕ, zero, suc, leb, length, drop}
 use Rattle.field.specs.Refusal.{Outcome, turned_down, gives}
 use Rattle.field.specs.declared.refused.Refusal.{Refusal}
 use Rattle.field.specs.Answers.{number_of}
@@ -58,3 +58,8 @@ space_fits space directions = fits 3 space && fits places directions
 -- the answer's characters, and how many they are
 abbrev pub line_fits : List ℕ → List ℕ → Bool
 line_fits answer count = fits answer_room answer && fits 1 count
+
+-- no call is turned down by 0
+abbrev pub Refuses : {A : Type 0} → Outcome A → Type 0
+Refuses (turned_down n) = n ≢ 0
+Refuses (gives v) = Unit {0}
