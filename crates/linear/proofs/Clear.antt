@@ -8,7 +8,7 @@ use native.Mathlib.Omega.{arith}
 use native.Mathlib.Decide.{ℕ_discrete}
 use lib.ListN.{length, get_or, set, length-set, length-map, get_or-map}
 use lib.Seq.{get_or-set_same, get_or-set_other}
-use Rattle.algebra.proofs.Filled.{Filled, filled_change, filled_all}
+use Rattle.algebra.proofs.Filled.{Filled, filled_all}
 use Rattle.binary.specs.Xor.{◌⊕◌}
 use Rattle.binary.specs.Bit.{bit}
 use Rattle.binary.proofs.Xor.{zero_xor, xor-zero, by_digit}
@@ -68,11 +68,7 @@ clear-row k p l lp j = pick (ℕ_discrete j p)
         rw (e, wants_self k p l, zero-mul, xor-zero) (get_or-set_same (map f l) p (get_or l p 0) 0 (omega (arith, length-map l f)))
     pick (no h) = get_or-set_other (map f l) p j (get_or l p 0) 0 h ∙ plus_at k (get_or l p 0) l j ∙ rw (wants_other k p l j h)
 
--- the code's loop over the rows, and what it has done at its end
-pub clear-turn : (k pivot : ℕ) (old out : List ℕ) (i v : ℕ) → i < length old → v ≡ plus k pivot (get_or out i 0)
-    → Filled (λ j. plus k pivot (get_or old j 0)) old out i → Filled (λ j. plus k pivot (get_or old j 0)) old (set out i v) (i + 1)
-clear-turn k pivot old out i v h e w = filled_change (λ j. plus k pivot) old out i v h e w
-
+-- what the code's loop over the rows has done at its end
 pub clear_end : (k p : ℕ) (old out : List ℕ) (i : ℕ) → length old ≤ i → Filled (λ j. plus k (get_or old p 0) (get_or old j 0)) old out i
     → set out p (get_or old p 0) ≡ clear k p old
 unfolding clear

@@ -8,7 +8,7 @@ use native.Mathlib.Omega.{arith}
 use lib.Bits.{bit_xor, xor_shifted}
 use lib.Pow.{pow_pos, pow_mono}
 use lib.ListN.{length, get_or, set, take, drop, length-set, length-append, length-map, get_or-append, get_or-map}
-use lib.Seq.{paste, paste-zero, paste-suc, length-take-le, get_or-take, take_at, drop_at, drop-drop, drop-set-lt, set_split}
+use lib.Seq.{paste, paste-suc, length-take-le, get_or-take, take_at, drop_at, drop-drop, drop-set-lt, set_split}
 use Rattle.algebra.specs.Lists.{count_up}
 use Rattle.algebra.proofs.CountUp.{count_up-length}
 use Rattle.binary.specs.Xor.{◌⊕◌}
@@ -23,9 +23,6 @@ pub record Doubled (d n : ℕ) (old out : List ℕ) (i : ℕ) : Type 0 where
   pub within : i ≤ n
   pub long : length out ≡ length old
   pub is : out ≡ paste old n (map (λ x. x ⊕ d) old) i
-
-pub doubled_start : (d n : ℕ) (old : List ℕ) → Doubled d n old old 0
-doubled_start d n old = record { within = omega arith; long = refl; is = paste-zero old n (map (λ x. x ⊕ d) old) }
 
 module _ {d n : ℕ} {old out : List ℕ} {i : ℕ} (D : Doubled d n old out i) where
   -- the first n entries are as they were

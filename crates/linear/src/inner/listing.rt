@@ -3,7 +3,7 @@ ghost use Rattle.std.specs.Prelude.{◌≡◌, ◌++◌, map, ℕ, ◌+◌, ◌^
 ghost use Rattle.std.proofs.Math.Seq.{paste};
 ghost use Rattle.algebra.specs.Lists.{count_up};
 ghost use Rattle.binary.specs.Xor.{◌⊕◌};
-ghost use Rattle.linear.specs.Limits.{places, width};
+ghost use Rattle.linear.specs.Limits.{width};
 ghost use Rattle.linear.specs.Directions.{choose};
 
 use crate::inner::space::Space;

