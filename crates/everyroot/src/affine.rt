@@ -31,6 +31,7 @@ impl<'a> Affine<'a> {
     }
 
     // l0·x + l1·x^2 + l2·x^4 + ..: the equation without c.
+    #[inline(never)]
     fn linear_part(&self, x: u32) -> u32 {
         let mut sum = 0;
         let mut power = x;

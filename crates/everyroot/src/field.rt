@@ -32,11 +32,11 @@ fn has_factor(p: u32) -> bool {
     (2..2 << degree(p) / 2).any(|d| remainder(p, d) == 0)
 }
 
-#[derive(Clone, Copy)]
+// The field modulo a polynomial: it has 2^m elements, where the polynomial has degree m.
+#[derive(Debug, Clone, Copy)]
 pub struct Field {
     polynomial: u32,
-    degree: u32,
-    ghost small: { degree ≤ 16 },
+    size: u32,
 }
 
 impl Field {
@@ -48,24 +48,25 @@ impl Field {
         if has_factor(polynomial) {
             return Err(Refusal::HasFactor);
         }
-        let degree = degree(polynomial);
-        Ok(Field { polynomial, degree })
+        let size = 1 << degree(polynomial);
+        Ok(Field { polynomial, size })
     }
 
+    // m, which is at most 16.
     pub fn degree(self) -> u32
         ensures { result ≤ 16 }
     {
-        self.degree
+        degree(self.polynomial)
     }
 
     pub fn elements(self) -> Range<u32> {
-        0..1 << self.degree
+        0..self.size
     }
 
-    // x times a: a shift, and p is added where that reaches 2^m.
+    // x times a: a shift, and the polynomial is added where that reaches 2^m.
     fn times_x(self, a: u32) -> u32 {
         let shifted = a << 1;
-        if shifted < 1 << self.degree {
+        if shifted < self.size {
             shifted
         } else {
             shifted ^ self.polynomial
@@ -75,11 +76,13 @@ impl Field {
     // a times b, by the bits of b from the highest down: the sum so far is multiplied by x, and a is added where the bit is 1.
     pub fn product(self, a: u32, b: u32) -> u32 {
         let mut sum = 0;
-        for i in (0..self.degree).rev() {
+        let mut bit = self.size / 2;
+        while bit != 0 {
             sum = self.times_x(sum);
-            if b >> i & 1 == 1 {
+            if b & bit != 0 {
                 sum ^= a;
             }
+            bit /= 2;
         }
         sum
     }
