@@ -19,7 +19,7 @@ fn degree(p: u32) -> u32
 fn remainder(p: u32, d: u32) -> u32 {
     let n = degree(d);
     let mut rest = p;
-    for i in (n..LARGEST + 1).rev() {
+    for i in (n..=LARGEST).rev() {
         if rest >> i & 1 == 1 {
             rest ^= d << (i - n);
         }
@@ -29,7 +29,8 @@ fn remainder(p: u32, d: u32) -> u32 {
 
 // Whether a polynomial of degree 1 to m/2 divides p. Every one is tried: they are the numbers from 2, which is x, to below 2^(m/2 + 1).
 fn has_factor(p: u32) -> bool {
-    (2..2 << degree(p) / 2).any(|d| remainder(p, d) == 0)
+    let end = 2 << (degree(p) / 2);
+    (2..end).any(|d| remainder(p, d) == 0)
 }
 
 // The field modulo a polynomial: it has 2^m elements, where the polynomial has degree m.

@@ -14,6 +14,12 @@ pub enum Kind {
     Affine = 2,
 }
 
+impl Kind {
+    pub fn number(self) -> u8 {
+        self as u8
+    }
+}
+
 impl TryFrom<u8> for Kind {
     type Error = Refusal;
 

@@ -1,8 +1,8 @@
 // Reads frame lines from standard input and answers each on standard output, as `gfroots` does, but by trying every element of the field.
 // It uses no crate of the library: whoever doubts an answer can read this program, and run it on the same input.
 //
-// To read in this order: `field` (product, factor test), `equation` and `affine` (the two searches), `refusal` (what a frame is turned
-// down for), `frame` (the digits of a line), `answer`, `stream` (bytes to lines), `output`.
+// To read in this order: `field` (product, factor test), `equation` and `affine` (the two searches), `frame` (the digits of a line),
+// `refusal` and `problem` (what a frame is turned down for), `answer`, `stream` (bytes to lines), `output`.
 #![tactic(auto)]
 
 mod affine;
@@ -11,6 +11,7 @@ mod equation;
 mod field;
 mod frame;
 mod output;
+mod problem;
 mod refusal;
 mod stream;
 
@@ -49,8 +50,7 @@ fn run(input: &mut impl Read, output: &mut impl Write) -> Result<(), Failure> {
         if n == 0 {
             break;
         }
-        line.extend(&chunk[..n], output)
-            .map_err(|_| Failure::Write)?;
+        line.feed(&chunk[..n], output).map_err(|_| Failure::Write)?;
     }
     line.finish(output).map_err(|_| Failure::Write)
 }

@@ -1,6 +1,7 @@
-// A writer that collects what it is given, and hands it on when it is full or flushed. Its buffer has a fixed size, so that the program
-// allocates no memory, as std's `BufWriter` does.
+// A writer that collects what it is given, and hands it on when it is full or flushed. std's `BufWriter` would take its buffer from the
+// heap; this one is of a fixed size, and the program allocates nothing.
 ghost use Rattle.std.specs.Prelude.{◌≤◌};
+ghost use Rattle.everyroot.specs.declared.output.TheConstants.{ROOM};
 
 use std::io::Write;
 use std::{io, mem};
@@ -12,7 +13,7 @@ pub struct Output<W> {
     writer: W,
     buffer: [u8; ROOM],
     waiting: usize,
-    ghost fits: { waiting ≤ 65536 },
+    ghost fits: { waiting ≤ ROOM },
 }
 
 impl<W: Write> Output<W> {

@@ -1,5 +1,6 @@
 // The input, byte by byte, cut into lines.
 ghost use Rattle.std.specs.Prelude.{◌≤◌};
+ghost use Rattle.everyroot.specs.declared.stream.TheConstants.{ROOM};
 
 use crate::answer::write_answer;
 use std::io::Write;
@@ -13,7 +14,7 @@ const ROOM: usize = 1031;
 pub struct Line {
     text: [u8; ROOM],
     length: usize,
-    ghost fits: { length ≤ 1031 },
+    ghost fits: { length ≤ ROOM },
 }
 
 impl Line {
@@ -24,8 +25,8 @@ impl Line {
         }
     }
 
-    // The bytes of one read. Each line that ends in them is answered, and the answers are handed on.
-    pub fn extend(&mut self, bytes: &[u8], output: &mut impl Write) -> io::Result<()> {
+    // The bytes of one read: each line that ends in them is answered, and the answers are handed on.
+    pub fn feed(&mut self, bytes: &[u8], output: &mut impl Write) -> io::Result<()> {
         for &byte in bytes {
             match byte {
                 b'\n' => self.end(output)?,
