@@ -17,7 +17,13 @@ struct Division {
     remainder: u32,
 }
 
-#[derive(Clone, Copy)]
+#[derive(Debug, Clone, Copy)]
+struct Root {
+    element: u32,
+    multiplicity: u32,
+}
+
+#[derive(Debug, Clone, Copy)]
 pub struct Equation {
     field: Field,
     polynomial: Polynomial,
@@ -59,16 +65,25 @@ impl Equation {
         LARGEST_DEGREE
     }
 
-    // What stands after 01, 00: the count of roots and the roots, ascending, each with its multiplicity.
+    fn root(&self, element: u32) -> Option<Root> {
+        match self.multiplicity(element) {
+            0 => None,
+            multiplicity => Some(Root {
+                element,
+                multiplicity,
+            }),
+        }
+    }
+
+    // What stands after 01, 00: the count of roots and the roots, ascending, each with its multiplicity. Every element is tried for the
+    // count; once that many roots are written, there is no other.
     pub fn write_roots(&self, output: &mut impl Write) -> io::Result<()> {
         let elements = self.field.elements();
-        let count = elements.filter(|&x| self.multiplicity(x) != 0).count();
+        let count = elements.filter_map(|x| self.root(x)).count();
         write!(output, "{count:02X}")?;
-        for x in self.field.elements() {
-            let multiplicity = self.multiplicity(x);
-            if multiplicity != 0 {
-                write!(output, "{x:04X}{multiplicity:02X}")?;
-            }
+        let elements = self.field.elements();
+        for root in elements.filter_map(|x| self.root(x)).take(count) {
+            write!(output, "{:04X}{:02X}", root.element, root.multiplicity)?;
         }
         Ok(())
     }
