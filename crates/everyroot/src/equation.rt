@@ -11,7 +11,7 @@ const LARGEST_DEGREE: u32 = 4;
 type Polynomial = [u32; TERMS];
 
 // A polynomial divided by another of degree 1.
-#[derive(Drop)]
+#[derive(Debug, Clone, Copy)]
 struct Division {
     quotient: Polynomial,
     remainder: u32,

@@ -74,7 +74,8 @@ impl Field {
         }
     }
 
-    // a times b, by the bits of b from the highest down: the sum so far is multiplied by x, and a is added where the bit is 1.
+    // a times b, by the bits of b from the highest down: the sum so far is multiplied by x, and a is added where the bit is 1. A `for` over
+    // the places of the bits was tried: the whole program is slower by half.
     pub fn product(self, a: u32, b: u32) -> u32 {
         let mut sum = 0;
         let mut bit = self.size / 2;

@@ -94,12 +94,10 @@ impl Digits<'_> {
 }
 
 fn digit(c: u8) -> Result<u8, Refusal>
-    ensures { IfOk result (λ v. v < 16) }
+    ensures { IfOk result (λ value. value < 16) }
 {
-    match c {
-        b'0'..=b'9' => Ok(c - b'0'),
-        b'A'..=b'F' => Ok(c - b'A' + 10),
-        b'a'..=b'f' => Ok(c - b'a' + 10),
-        _ => Err(Refusal::Malformed),
+    match char::from(c).to_digit(16) {
+        Some(value) => Ok(value as u8),
+        None => Err(Refusal::Malformed),
     }
 }
