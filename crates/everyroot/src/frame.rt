@@ -42,6 +42,7 @@ pub struct Frame {
 }
 
 impl Frame {
+    // A line that is no frame from its first to its last character is malformed.
     pub fn parse(line: &[u8]) -> Result<Frame, Refusal> {
         let mut digits = Digits(line);
         let kind = Kind::try_from(digits.byte()?)?;
@@ -70,6 +71,7 @@ impl Frame {
 struct Digits<'a>(&'a [u8]);
 
 impl Digits<'_> {
+    // The next two digits.
     fn byte(&mut self) -> Result<u8, Refusal> {
         let [high, low, rest @ ..] = self.0 else {
             return Err(Refusal::Malformed);
@@ -78,12 +80,14 @@ impl Digits<'_> {
         Ok(digit(*high)? * 16 + digit(*low)?)
     }
 
+    // The next four digits.
     fn two_bytes(&mut self) -> Result<u32, Refusal> {
         let high = self.byte()?;
         let low = self.byte()?;
         Ok(u32::from(u16::from_be_bytes([high, low])))
     }
 
+    // No character may be left.
     fn end(self) -> Result<(), Refusal> {
         if self.0.is_empty() {
             Ok(())

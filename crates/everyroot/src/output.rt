@@ -8,6 +8,7 @@ use std::{io, mem};
 
 const ROOM: usize = 65536;
 
+// The first `waiting` bytes of the buffer are not handed on yet.
 #[derive(Drop)]
 pub struct Output<W> {
     writer: W,
