@@ -1,91 +1,90 @@
-// Equations of degree up to 4: five coefficients, constant first, not all 0. Every element is tried. `size` is 2^m.
-use crate::field::product;
-use crate::output;
-use crate::output::{Output, ROOM};
+// Equations of degree up to 4: five coefficients, constant first, not all 0. Every element is tried.
+use crate::field::Field;
+use std::io;
+use std::io::Write;
 
 // How many coefficients a polynomial has.
 pub const TERMS: usize = 5;
 
 const LARGEST_DEGREE: u32 = 4;
 
+type Polynomial = [u32; TERMS];
+
 // A polynomial divided by another of degree 1.
-#[derive(Clone, Copy)]
+#[derive(Debug, Clone, Copy)]
 struct Division {
-    quotient: [u32; TERMS],
+    quotient: Polynomial,
     remainder: u32,
 }
 
-// The polynomial divided by x + r, by Horner's rule from the highest coefficient down. The remainder is its value at r.
-fn divided(p: u32, size: u32, c: [u32; TERMS], r: u32) -> Division {
-    let third = c[4];
-    let second = c[3] ^ product(p, size, third, r);
-    let first = c[2] ^ product(p, size, second, r);
-    let constant = c[1] ^ product(p, size, first, r);
-    Division {
-        quotient: [constant, first, second, third, 0],
-        remainder: c[0] ^ product(p, size, constant, r),
-    }
+#[derive(Debug, Clone, Copy)]
+struct Root {
+    element: u32,
+    multiplicity: u32,
 }
 
-// How often x + r divides the polynomial: 0 where r is no root, and at most four times, as the degree is at most 4.
-fn multiplicity(p: u32, size: u32, c: [u32; TERMS], r: u32) -> u32 {
-    let mut rest = c;
-    for k in 0..LARGEST_DEGREE {
-        let d = divided(p, size, rest, r);
-        if d.remainder != 0 {
-            return k;
+#[derive(Debug, Clone, Copy)]
+pub struct Equation {
+    field: Field,
+    polynomial: Polynomial,
+}
+
+impl Equation {
+    // Coefficients that are not given are 0.
+    pub fn new(field: Field, given: &[u32]) -> Equation {
+        let mut polynomial = [0; TERMS];
+        for (place, &coefficient) in polynomial.iter_mut().zip(given) {
+            *place = coefficient;
         }
-        let next = d.quotient;
-        rest = next;
+        Equation { field, polynomial }
     }
-    LARGEST_DEGREE
-}
 
-// How many elements are roots.
-fn count(p: u32, size: u32, c: [u32; TERMS]) -> u32 {
-    let mut n: u32 = 0;
-    for x in 0..size {
-        if multiplicity(p, size, c, x) != 0 {
-            n += 1;
+    // The polynomial divided by x + r, by Horner's rule from the highest coefficient down. The remainder is its value at r.
+    fn divided(&self, [c0, c1, c2, c3, c4]: Polynomial, r: u32) -> Division {
+        let times_r = |a| self.field.product(a, r);
+        let third = c4;
+        let second = c3 ^ times_r(third);
+        let first = c2 ^ times_r(second);
+        let constant = c1 ^ times_r(first);
+        Division {
+            quotient: [constant, first, second, third, 0],
+            remainder: c0 ^ times_r(constant),
         }
     }
-    n
-}
 
-// A root with its multiplicity; nothing where that is 0.
-fn put_root(rt: &HostRuntime, o: Output, buffer: &mut [u8; ROOM], x: u32, k: u32) -> Output {
-    if k == 0 {
-        return o;
+    // How often x + r divides the polynomial: 0 where r is no root, and at most four times, as the degree is at most 4.
+    fn multiplicity(&self, r: u32) -> u32 {
+        let mut rest = self.polynomial;
+        for k in 0..LARGEST_DEGREE {
+            let division = self.divided(rest, r);
+            if division.remainder != 0 {
+                return k;
+            }
+            rest = division.quotient;
+        }
+        LARGEST_DEGREE
     }
-    let after = output::put_element(rt, o, buffer, x);
-    output::put_byte(rt, after, buffer, k)
-}
 
-// The roots, ascending.
-fn put_roots(
-    rt: &HostRuntime,
-    o: Output,
-    buffer: &mut [u8; ROOM],
-    p: u32,
-    size: u32,
-    c: [u32; TERMS],
-) -> Output {
-    let mut after = o;
-    for x in 0..size {
-        after = put_root(rt, after, buffer, x, multiplicity(p, size, c, x));
+    fn root(&self, element: u32) -> Option<Root> {
+        match self.multiplicity(element) {
+            0 => None,
+            multiplicity => Some(Root {
+                element,
+                multiplicity,
+            }),
+        }
     }
-    after
-}
 
-// What stands after 01, 00: the count of roots and the roots.
-pub fn put_answer(
-    rt: &HostRuntime,
-    o: Output,
-    buffer: &mut [u8; ROOM],
-    p: u32,
-    size: u32,
-    c: [u32; TERMS],
-) -> Output {
-    let counted = output::put_byte(rt, o, buffer, count(p, size, c));
-    put_roots(rt, counted, buffer, p, size, c)
+    // What stands after 01, 00: the count of roots and the roots, ascending, each with its multiplicity. Every element is tried for the
+    // count; once that many roots are written, there is no other.
+    pub fn write_roots(&self, output: &mut impl Write) -> io::Result<()> {
+        let elements = self.field.elements();
+        let count = elements.filter_map(|x| self.root(x)).count();
+        write!(output, "{count:02X}")?;
+        let elements = self.field.elements();
+        for root in elements.filter_map(|x| self.root(x)).take(count) {
+            write!(output, "{:04X}{:02X}", root.element, root.multiplicity)?;
+        }
+        Ok(())
+    }
 }

@@ -1,128 +1,107 @@
 // A line read as a frame. Its bytes, two hexadecimal digits of either case each: 0 is the kind, 1 to 3 are the field polynomial, 4 is the
 // count of coefficients, and from 5 on a coefficient has two. The high byte is first.
-ghost use Rattle.std.specs.Prelude.{◌≤◌, ◌<◌};
+ghost use Rattle.std.specs.Prelude.{◌<◌, IfOk};
 
-// How many digits a line has at most, which is with 255 coefficients.
-pub const LONGEST: usize = 1030;
+use crate::refusal::Refusal;
 
-// How many digits stand before the coefficients.
-const HEAD: usize = 10;
-
-// How many coefficients are kept: a frame with more is turned down whatever they are.
-pub const PLACES: usize = 17;
+// How many coefficients a count can announce.
+const PLACES: usize = 255;
 
 // The kinds of frame: an equation of degree up to 4, and an affine one.
-pub const EQUATION: u32 = 1;
+#[derive(Debug, Clone, Copy, PartialEq, Eq)]
+pub enum Kind {
+    Equation = 1,
+    Affine = 2,
+}
 
-pub const AFFINE: u32 = 2;
+impl Kind {
+    pub fn number(self) -> u8 {
+        self as u8
+    }
+}
 
-// The value of a character that is no digit.
-const NO_DIGIT: u32 = 16;
+impl TryFrom<u8> for Kind {
+    type Error = Refusal;
 
-// A frame. Places for coefficients that are not given hold 0.
-#[derive(Clone, Copy)]
+    fn try_from(byte: u8) -> Result<Kind, Refusal> {
+        match byte {
+            1 => Ok(Kind::Equation),
+            2 => Ok(Kind::Affine),
+            _ => Err(Refusal::Malformed),
+        }
+    }
+}
+
+// A frame: the first `count` places hold its coefficients.
+#[derive(Drop)]
 pub struct Frame {
-    pub kind: u32,
+    pub kind: Kind,
     pub polynomial: u32,
-    pub count: u32,
-    pub coefficients: [u32; PLACES],
+    count: u8,
+    places: [u32; PLACES],
 }
 
-fn digit(c: u8) -> u32
-    ensures { result ≤ 16 }
-{
-    match c {
-        b'0'..=b'9' => (c - b'0') as u32,
-        b'A'..=b'F' => (c - b'A') as u32 + 10,
-        b'a'..=b'f' => (c - b'a') as u32 + 10,
-        _ => NO_DIGIT,
+impl Frame {
+    // A line that is no frame from its first to its last character is malformed.
+    pub fn parse(line: &[u8]) -> Result<Frame, Refusal> {
+        let mut digits = Digits(line);
+        let kind = Kind::try_from(digits.byte()?)?;
+        let polynomial = u32::from(digits.byte()?) << 16 | digits.two_bytes()?;
+        let count = digits.byte()?;
+        let mut places = [0; PLACES];
+        for place in &mut places[..usize::from(count)] {
+            *place = digits.two_bytes()?;
+        }
+        digits.end()?;
+        Ok(Frame {
+            kind,
+            polynomial,
+            count,
+            places,
+        })
+    }
+
+    pub fn coefficients(&self) -> &[u32] {
+        &self.places[..usize::from(self.count)]
     }
 }
 
-fn digit_at(line: &[u8], i: usize) -> u32
-    ensures { result ≤ 16 }
-{
-    if i < line.len() {
-        return digit(line[i]);
-    }
-    NO_DIGIT
-}
+// The digits of a line that are not read yet.
+#[derive(Drop)]
+struct Digits<'a>(&'a [u8]);
 
-fn all_digits(line: &[u8]) -> bool {
-    for i in 0..line.len() {
-        if digit(line[i]) == NO_DIGIT {
-            return false;
+impl Digits<'_> {
+    // The next two digits.
+    fn byte(&mut self) -> Result<u8, Refusal> {
+        let [high, low, rest @ ..] = self.0 else {
+            return Err(Refusal::Malformed);
+        };
+        self.0 = rest;
+        Ok(digit(*high)? * 16 + digit(*low)?)
+    }
+
+    // The next four digits.
+    fn two_bytes(&mut self) -> Result<u32, Refusal> {
+        let high = self.byte()?;
+        let low = self.byte()?;
+        Ok(u32::from(u16::from_be_bytes([high, low])))
+    }
+
+    // No character may be left.
+    fn end(self) -> Result<(), Refusal> {
+        if self.0.is_empty() {
+            Ok(())
+        } else {
+            Err(Refusal::Malformed)
         }
     }
-    true
 }
 
-// The byte at place k. The bound is that for two characters that are no digits; a line that is not malformed has none.
-fn byte(line: &[u8], k: usize) -> u32
-    requires { k < 515 }
-    ensures { result ≤ 272 }
+fn digit(c: u8) -> Result<u8, Refusal>
+    ensures { IfOk result (λ value. value < 16) }
 {
-    digit_at(line, 2 * k) * 16 + digit_at(line, 2 * k + 1)
-}
-
-fn kind(line: &[u8]) -> u32 {
-    byte(line, 0)
-}
-
-fn polynomial(line: &[u8]) -> u32 {
-    byte(line, 1) * 65536 + byte(line, 2) * 256 + byte(line, 3)
-}
-
-fn count(line: &[u8]) -> u32
-    ensures { result ≤ 272 }
-{
-    byte(line, 4)
-}
-
-// The coefficient at place i, 0 where there are fewer.
-fn coefficient(line: &[u8], i: usize) -> u32
-    requires { i < 17 }
-{
-    if count(line) as usize <= i {
-        return 0;
-    }
-    byte(line, 5 + 2 * i) * 256 + byte(line, 6 + 2 * i)
-}
-
-fn coefficients(line: &[u8]) -> [u32; PLACES] {
-    let mut list = [0; PLACES];
-    for i in 0..PLACES {
-        list[i] = coefficient(line, i);
-    }
-    list
-}
-
-// Whether a line of up to 1,030 characters is malformed.
-pub fn malformed(line: &[u8]) -> bool {
-    if line.len() % 2 == 1 {
-        return true;
-    }
-    if line.len() < HEAD {
-        return true;
-    }
-    if !all_digits(line) {
-        return true;
-    }
-    if kind(line) != EQUATION {
-        if kind(line) != AFFINE {
-            return true;
-        }
-    }
-    line.len() != HEAD + 4 * count(line) as usize
-}
-
-// The frame of a line that is not malformed.
-pub fn read(line: &[u8]) -> Frame {
-    let list = coefficients(line);
-    Frame {
-        kind: kind(line),
-        polynomial: polynomial(line),
-        count: count(line),
-        coefficients: list,
+    match char::from(c).to_digit(16) {
+        Some(value) => Ok(value as u8),
+        None => Err(Refusal::Malformed),
     }
 }

@@ -1,8 +1,8 @@
 // Reads frame lines from standard input and answers each on standard output, as `gfroots` does, but by trying every element of the field.
 // It uses no crate of the library: whoever doubts an answer can read this program, and run it on the same input.
 //
-// To read in this order: `field` (product, factor test), `equation` and `affine` (the two searches), `refusal` (the numbers a frame is
-// turned down by), `frame` (the digits of a line), `answer`, `stream` (bytes to lines), `output`.
+// To read in this order: `field` (product, factor test), `equation` and `affine` (the two searches), `frame` (the digits of a line),
+// `refusal` and `problem` (what a frame is turned down for), `answer`, `stream` (bytes to lines), `output`.
 #![tactic(auto)]
 
 mod affine;
@@ -11,90 +11,54 @@ mod equation;
 mod field;
 mod frame;
 mod output;
+mod problem;
 mod refusal;
 mod stream;
 
-use crate::frame::LONGEST;
-use crate::output::{Output, ROOM};
-use crate::stream::State;
-use std::io::Read;
+use crate::output::Output;
+use crate::stream::Line;
+use std::io::{Read, Write};
+use std::{fmt, io};
 
 // How many bytes a read asks for.
 const CHUNK: usize = 65536;
 
-// What a read left, and whether there is another.
-#[derive(Clone, Copy)]
-struct After {
-    more: bool,
-    state: State,
+// What ends a run before the end of the input.
+#[derive(Debug, Clone, Copy, PartialEq, Eq)]
+enum Failure {
+    Read,
+    Write,
 }
 
-// A read has failed, and the line that had begun is not whole: it is forgotten, so that no part of a line is answered as if it were one.
-fn cut_off(rt: &HostRuntime, s: State) -> After {
-    // Where this fails too, there is nowhere left to say so.
-    let _ = eprintln!(rt; "everyroot: a read failed; only the lines before it are answered");
-    let output = s.output;
-    After {
-        more: false,
-        state: State { length: 0, output },
+impl fmt::Display for Failure {
+    fn fmt<W: fmt::Write>(&self, f: &mut fmt::Formatter<W>) -> fmt::Result {
+        f.write_str(match self {
+            Failure::Read => "a read failed; only the lines before it are answered",
+            Failure::Write => "a write failed; answers are missing",
+        })
     }
 }
 
-// One read, and all its lines: the answers are handed on before the next read. A failed write ends the run.
-fn turn(rt: &HostRuntime, s: State, line: &mut [u8; LONGEST], buffer: &mut [u8; ROOM]) -> After {
-    let mut bytes = [0u8; CHUNK];
-    let Ok(n) = rt.stdin().read(&mut bytes) else {
-        return cut_off(rt, s);
-    };
-    if n == 0 {
-        return After {
-            more: false,
-            state: s,
-        };
-    }
-    let walked = stream::walked(rt, s, line, buffer, &bytes[..n]);
-    let handed = output::flushed(rt, walked.output, buffer);
-    After {
-        more: handed.open,
-        state: State {
-            length: walked.length,
-            output: handed,
-        },
-    }
-}
-
-// Reads to the end of the input, one turn after another.
-fn turns(rt: &HostRuntime, s: State, line: &mut [u8; LONGEST], buffer: &mut [u8; ROOM]) -> State {
-    let mut state = s;
+// Answers all lines. A line that a failed read cut off is not whole: it gets no answer, so that no part of a line is answered as if it
+// were one.
+fn run(input: &mut impl Read, output: &mut impl Write) -> Result<(), Failure> {
+    let mut line = Line::new();
+    let mut chunk = [0; CHUNK];
+    // No input has as many bytes.
     for _ in 0..u64::MAX {
-        let t = turn(rt, state, line, buffer);
-        state = t.state;
-        if !t.more {
-            return state;
+        let n = input.read(&mut chunk).map_err(|_| Failure::Read)?;
+        if n == 0 {
+            break;
         }
+        line.feed(&chunk[..n], output).map_err(|_| Failure::Write)?;
     }
-    state
-}
-
-// A last line without a line feed counts.
-fn last(rt: &HostRuntime, s: State, line: &mut [u8; LONGEST], buffer: &mut [u8; ROOM]) -> State {
-    if s.length == 0 {
-        return s;
-    }
-    stream::ended(rt, s, line, buffer)
+    line.finish(output).map_err(|_| Failure::Write)
 }
 
 fn main(rt: HostRuntime) {
-    let mut line = [0u8; LONGEST];
-    let mut buffer = [0u8; ROOM];
-    let start = State {
-        length: 0,
-        output: Output {
-            waiting: 0,
-            open: true,
-        },
-    };
-    let read = turns(&rt, start, &mut line, &mut buffer);
-    let done = last(&rt, read, &mut line, &mut buffer);
-    output::flushed(&rt, done.output, &mut buffer);
+    let mut output = Output::new(io::writer(&rt));
+    if let Err(failure) = run(&mut rt.stdin(), &mut output) {
+        // Where this fails too, there is nowhere left to say so.
+        let _ = eprintln!(rt; "everyroot: {failure}");
+    }
 }

@@ -1,69 +1,59 @@
-// The input, byte by byte, cut into lines. The line so far is kept in a lent buffer that has room for the longest that is well formed.
-use crate::answer;
-use crate::frame::LONGEST;
-use crate::output::{Output, ROOM};
+// The input, byte by byte, cut into lines.
+ghost use Rattle.std.specs.Prelude.{◌≤◌};
+ghost use Rattle.everyroot.specs.declared.stream.TheConstants.{ROOM};
 
-// How long the line is so far, and where the output stands.
-#[derive(Clone, Copy)]
-pub struct State {
-    pub length: usize,
-    pub output: Output,
+use crate::answer::write_answer;
+use std::io::Write;
+use std::{io, mem};
+
+// One more than the longest frame has digits, which is with 255 coefficients. A longer line is cut to this length: it is malformed too.
+const ROOM: usize = 1031;
+
+// The line that has begun.
+#[derive(Drop)]
+pub struct Line {
+    text: [u8; ROOM],
+    length: usize,
+    ghost fits: { length ≤ ROOM },
 }
 
-// One byte more in the line. The length of a line that is too long stays at one more than there is room for.
-fn with_byte(s: State, line: &mut [u8; LONGEST], b: u8) -> State {
-    let n = s.length;
-    let mut next = s;
-    if n < LONGEST {
-        line[n] = b;
-        next.length = n + 1;
-        return next;
+impl Line {
+    pub fn new() -> Line {
+        Line {
+            text: [0; ROOM],
+            length: 0,
+        }
     }
-    next.length = LONGEST + 1;
-    next
-}
 
-// The line is at its end: it is answered, and the next one begins. After a write that failed no line is answered.
-pub fn ended(
-    rt: &HostRuntime,
-    s: State,
-    line: &mut [u8; LONGEST],
-    buffer: &mut [u8; ROOM],
-) -> State {
-    let before = s.output;
-    if !before.open {
-        return s;
+    // The bytes of one read: each line that ends in them is answered, and the answers are handed on.
+    pub fn feed(&mut self, bytes: &[u8], output: &mut impl Write) -> io::Result<()> {
+        for &byte in bytes {
+            match byte {
+                b'\n' => self.end(output)?,
+                _ => self.push(byte),
+            }
+        }
+        output.flush()
     }
-    State {
-        length: 0,
-        output: answer::put_line(rt, before, buffer, line, s.length),
-    }
-}
 
-fn step(
-    rt: &HostRuntime,
-    s: State,
-    line: &mut [u8; LONGEST],
-    buffer: &mut [u8; ROOM],
-    b: u8,
-) -> State {
-    if b == b'\n' {
-        return ended(rt, s, line, buffer);
+    // The end of the input: a last line without a line feed counts.
+    pub fn finish(&mut self, output: &mut impl Write) -> io::Result<()> {
+        if self.length != 0 {
+            self.end(output)?;
+        }
+        output.flush()
     }
-    with_byte(s, line, b)
-}
 
-// The bytes of one read.
-pub fn walked(
-    rt: &HostRuntime,
-    s: State,
-    line: &mut [u8; LONGEST],
-    buffer: &mut [u8; ROOM],
-    bytes: &[u8],
-) -> State {
-    let mut next = s;
-    for i in 0..bytes.len() {
-        next = step(rt, next, line, buffer, bytes[i]);
+    fn push(&mut self, byte: u8) {
+        if let Some(place) = self.text.get_mut(self.length) {
+            *place = byte;
+            self.length += 1;
+        }
     }
-    next
+
+    // The line is at its end: it is answered, and the next one begins.
+    fn end(&mut self, output: &mut impl Write) -> io::Result<()> {
+        let length = mem::take(&mut self.length);
+        write_answer(output, &self.text[..length])
+    }
 }

@@ -1,5 +1,5 @@
 -- The bit runs out. Assumes nothing.
-use Rattle.everyroot.proofs.field.product.Given as goal
+use Rattle.everyroot.proofs.field.Field.product.Given as goal
 
 abbrev pub decreases-loop-bit : goal.decreases-loop-bit
 decreases-loop-bit l = l.bit
