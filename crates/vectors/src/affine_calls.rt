@@ -1,5 +1,5 @@
 // What the calls of `affine` answer.
-use crate::said::{MALFORMED, Said, TurnedDown, Unused, say_places};
+use crate::said::{Malformed, Said, TurnedDown, Unused, say_places};
 use affine::{AffineAnswer, CountAnswer, RootSpace};
 use std::io;
 use std::io::Write;
@@ -48,7 +48,7 @@ impl Said for CountAnswer {
 pub fn list<W: Write>(p: u32, room: u32, coefficients: &[u32], out: &mut W) -> io::Result<()> {
     let mut entries = [FILLING; LENT];
     let Some(lent) = entries.get_mut(..room as usize) else {
-        return MALFORMED.say(out);
+        return Malformed.say(out);
     };
     affine::list_roots(p, coefficients, lent).say(out)?;
     write!(out, ", list")?;

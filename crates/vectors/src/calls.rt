@@ -6,7 +6,7 @@ use field::{Element, LogNumber};
 use std::io;
 use std::io::Write;
 
-#[derive(Clone, Copy, Debug, PartialEq, Eq)]
+#[derive(Clone, Copy)]
 pub enum Call {
     Accept,
     Sum,

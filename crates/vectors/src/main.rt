@@ -11,33 +11,29 @@ mod row;
 mod said;
 
 use crate::row::Row;
-use crate::said::{MALFORMED, Said};
+use crate::said::{Malformed, Said};
+use arrayvec::ArrayVec;
 use std::io;
 use std::io::{Read, Write};
 
 // How many bytes are read at most.
 const MOST_BYTES: usize = 65536;
 
-// The text of the input, which ends where the input ends, where a read fails, or after so many bytes.
-fn read_text(rt: &HostRuntime) -> io::Result<Vec<u8>> {
-    let mut text = Vec::with_capacity(rt.alloc(), MOST_BYTES)?;
-    let _ = rt.stdin().take(MOST_BYTES as u64).read_to_end(&mut text);
-    Ok(text)
-}
-
 // The row of a line as it came, which need not be text, and the answer of its call.
 fn answer_line<W: Write>(line: &[u8], out: &mut W) -> io::Result<()> {
     let row = line.strip_suffix(b"\n").unwrap_or(line);
     out.write_all(row)?;
     write!(out, ":")?;
-    Row::parse(row).ok_or(MALFORMED).say(out)?;
+    Row::parse(row).ok_or(Malformed).say(out)?;
     writeln!(out)
 }
 
+// A read that fails ends the text, as the input's end does.
 fn main(rt: HostRuntime) -> io::Result<()> {
-    let text = read_text(&rt)?;
+    let mut text: ArrayVec<u8, MOST_BYTES> = ArrayVec::new();
+    let _ = io::copy(&mut rt.stdin().take(MOST_BYTES as u64), &mut text);
     let mut out = io::writer(&rt);
-    for line in text.split_inclusive(|b| *b == b'\n') {
+    for line in text.as_slice().split_inclusive(|b| *b == b'\n') {
         answer_line(line, &mut out)?;
     }
     Ok(())

@@ -12,15 +12,16 @@ fn say_count<W: Write>(count: RootCount, out: &mut W) -> io::Result<usize> {
             TurnedDown(n).say(out)?;
             Ok(0)
         }
-        RootCount::Solved(0) => {
-            write!(out, " no root")?;
-            Ok(0)
+        RootCount::Solved(n) => {
+            if n == 0 {
+                write!(out, " no root")?;
+            }
+            Ok(n as usize)
         }
-        RootCount::Solved(n) => Ok(n as usize),
     }
 }
 
-// A root with its multiplicity, as 2x1.
+// Each root with its multiplicity, as 2x1.
 impl Said for RootsAnswer {
     fn say<W: Write>(&self, out: &mut W) -> io::Result<()> {
         let used = say_count(self.count, out)?;

@@ -9,17 +9,23 @@ pub trait Said {
     fn say<W: Write>(&self, out: &mut W) -> io::Result<()>;
 }
 
-// The number by which a row or a call is turned down.
-#[derive(Clone, Copy, Debug, PartialEq, Eq)]
-pub struct TurnedDown(pub u32);
+// A row that is no call's.
+#[derive(Clone, Copy)]
+pub struct Malformed;
 
-// The number of a row that is no call's.
-pub const MALFORMED: TurnedDown = TurnedDown(8);
+impl Said for Malformed {
+    fn say<W: Write>(&self, out: &mut W) -> io::Result<()> {
+        write!(out, " turned down by 8")
+    }
+}
+
+// The number by which a call is turned down.
+#[derive(Clone, Copy)]
+pub struct TurnedDown(pub u32);
 
 impl Said for TurnedDown {
     fn say<W: Write>(&self, out: &mut W) -> io::Result<()> {
-        let number = self.0;
-        write!(out, " turned down by {number}")
+        write!(out, " turned down by {}", self.0)
     }
 }
 
@@ -51,7 +57,7 @@ impl<T: Said, E: Said> Said for Result<T, E> {
 }
 
 // A place that an answer does not use is to hold 0: only another number is written.
-#[derive(Clone, Copy, Debug, PartialEq, Eq)]
+#[derive(Clone, Copy)]
 pub struct Unused(pub u32);
 
 impl Said for Unused {
