@@ -1,71 +1,82 @@
-// The call that a row names, with the row's numbers.
-use crate::numbers::{at, exponent, from};
-use crate::print::MALFORMED;
-use crate::{affine_calls, print, roots_calls, said};
-use field::{Element, Exponent, LogNumber};
+// The calls that a row can name, each with the row's numbers.
+use crate::affine_calls::list;
+use crate::row::Row;
+use crate::said::Said;
+use field::{Element, LogNumber};
 use std::io;
+use std::io::Write;
 
-// The letters of each name, a byte each, as row.rt reads them.
-const ACCEPT: u64 = 0x61_63_63_65_70_74;
+#[derive(Clone, Copy)]
+pub enum Call {
+    Accept,
+    Sum,
+    Product,
+    Quotient,
+    Power,
+    Root,
+    Trace,
+    Number,
+    Element,
+    PowerOfX,
+    House,
+    Solve,
+    Build,
+    Affine,
+    Place,
+    List,
+}
 
-const SUM: u64 = 0x73_75_6d;
+impl Call {
+    // The call of this name. NUL bytes before the first letter are no part of it.
+    pub fn named(word: &[u8]) -> Option<Call> {
+        let start = word.iter().position(|b| *b != 0)?;
+        match &word[start..] {
+            b"accept" => Some(Call::Accept),
+            b"sum" => Some(Call::Sum),
+            b"product" => Some(Call::Product),
+            b"quotient" => Some(Call::Quotient),
+            b"power" => Some(Call::Power),
+            b"root" => Some(Call::Root),
+            b"trace" => Some(Call::Trace),
+            b"number" => Some(Call::Number),
+            b"element" => Some(Call::Element),
+            b"xpower" => Some(Call::PowerOfX),
+            b"house" => Some(Call::House),
+            b"solve" => Some(Call::Solve),
+            b"build" => Some(Call::Build),
+            b"affine" => Some(Call::Affine),
+            b"place" => Some(Call::Place),
+            b"list" => Some(Call::List),
+            _ => None,
+        }
+    }
+}
 
-const PRODUCT: u64 = 0x70_72_6f_64_75_63_74;
-
-const QUOTIENT: u64 = 0x71_75_6f_74_69_65_6e_74;
-
-const POWER: u64 = 0x70_6f_77_65_72;
-
-const ROOT: u64 = 0x72_6f_6f_74;
-
-const TRACE: u64 = 0x74_72_61_63_65;
-
-const NUMBER: u64 = 0x6e_75_6d_62_65_72;
-
-const ELEMENT: u64 = 0x65_6c_65_6d_65_6e_74;
-
-const XPOWER: u64 = 0x78_70_6f_77_65_72;
-
-const HOUSE: u64 = 0x68_6f_75_73_65;
-
-const SOLVE: u64 = 0x73_6f_6c_76_65;
-
-const BUILD: u64 = 0x62_75_69_6c_64;
-
-const AFFINE: u64 = 0x61_66_66_69_6e_65;
-
-const PLACE: u64 = 0x70_6c_61_63_65;
-
-const LIST: u64 = 0x6c_69_73_74;
-
-// The first number is the field polynomial, or the degree for the house's; then come elements or exponents, or the list, before which
-// stands the place, or how many entries are lent.
-pub fn run(rt: &HostRuntime, name: u64, negative: bool, numbers: &[u32]) -> io::Result<()> {
-    let p = at(numbers, 0);
-    let a = at(numbers, 1);
-    let b = at(numbers, 2);
-    let list = from(numbers, 1);
-    let coefficients = from(numbers, 2);
-    match name {
-        ACCEPT => said::degree(rt, field::accept(p)),
-        SUM => said::element(rt, field::sum(p, Element(a), Element(b))),
-        PRODUCT => said::element(rt, field::product(p, Element(a), Element(b))),
-        QUOTIENT => said::element(rt, field::quotient(p, Element(a), Element(b))),
-        POWER => said::element(
-            rt,
-            field::power(p, Element(a), Exponent(exponent(negative, b))),
-        ),
-        ROOT => said::element(rt, field::square_root(p, Element(a))),
-        TRACE => said::trace(rt, field::trace(p, Element(a))),
-        NUMBER => said::number(rt, field::number_of_element(p, Element(a))),
-        ELEMENT => said::element(rt, field::element_of_number(p, LogNumber(a))),
-        XPOWER => said::element(rt, field::power_of_x(p, Exponent(exponent(negative, a)))),
-        HOUSE => said::polynomial(rt, field::house_polynomial(p)),
-        SOLVE => roots_calls::solve(rt, p, list),
-        BUILD => roots_calls::build(rt, p, list),
-        AFFINE => affine_calls::solve(rt, p, list),
-        PLACE => affine_calls::place(rt, p, a, coefficients),
-        LIST => affine_calls::list(rt, p, a, coefficients),
-        _ => print::turned_down(rt, MALFORMED),
+// What the row's call answers. The first number is the field polynomial, or the degree for the house's; then come elements or exponents,
+// or the list, before which stands the place, or how many entries are lent.
+impl Said for Row {
+    fn say<W: Write>(&self, out: &mut W) -> io::Result<()> {
+        let p = self.number(0);
+        let n = self.number(1);
+        let a = Element(n);
+        let b = Element(self.number(2));
+        match self.call {
+            Call::Accept => field::accept(p).say(out),
+            Call::Sum => field::sum(p, a, b).say(out),
+            Call::Product => field::product(p, a, b).say(out),
+            Call::Quotient => field::quotient(p, a, b).say(out),
+            Call::Power => field::power(p, a, self.exponent(2)).say(out),
+            Call::Root => field::square_root(p, a).say(out),
+            Call::Trace => field::trace(p, a).say(out),
+            Call::Number => field::number_of_element(p, a).say(out),
+            Call::Element => field::element_of_number(p, LogNumber(n)).say(out),
+            Call::PowerOfX => field::power_of_x(p, self.exponent(1)).say(out),
+            Call::House => field::house_polynomial(p).say(out),
+            Call::Solve => roots::solve(p, self.list(1)).say(out),
+            Call::Build => roots::build(p, self.list(1)).say(out),
+            Call::Affine => affine::solve(p, self.list(1)).say(out),
+            Call::Place => affine::root_at_place(p, self.list(2), n).say(out),
+            Call::List => list(p, n, self.list(2), out),
+        }
     }
 }

@@ -4,81 +4,37 @@
 // which tests/vectors.py made.
 #![tactic(auto)]
 
-ghost use Rattle.std.specs.Prelude.{◌≤◌, length};
-
 mod affine_calls;
 mod calls;
-mod numbers;
-mod print;
 mod roots_calls;
 mod row;
 mod said;
 
 use crate::row::Row;
+use crate::said::{Malformed, Said};
+use arrayvec::ArrayVec;
 use std::io;
-use std::io::Read;
+use std::io::{Read, Write};
 
 // How many bytes are read at most.
 const MOST_BYTES: usize = 65536;
 
-// The answer after the row, and the line end.
-fn finish(rt: &HostRuntime, row: Row) -> io::Result<()> {
-    let all = row.numbers;
-    print::words(rt, ":")?;
-    calls::run(rt, row.name, row.negative, numbers::first(&all, row.count))?;
-    print::words(rt, "\n")
+// The row of a line as it came, which need not be text, and the answer of its call.
+fn answer_line<W: Write>(line: &[u8], out: &mut W) -> io::Result<()> {
+    let row = line.strip_suffix(b"\n").unwrap_or(line);
+    out.write_all(row)?;
+    write!(out, ":")?;
+    Row::parse(row).ok_or(Malformed).say(out)?;
+    writeln!(out)
 }
 
-// One byte of a row: it is written back, and at the row's end the answer after it.
-fn step(rt: &HostRuntime, row: Row, b: u8) -> io::Result<Row> {
-    if b == b'\n' {
-        finish(rt, row)?;
-        return Ok(row::empty());
-    }
-    print::byte(rt, b)?;
-    Ok(row::next(row, b))
-}
-
-fn walk(rt: &HostRuntime, text: &[u8]) -> io::Result<Row> {
-    let mut row = row::empty();
-    for i in 0..text.len() {
-        row = step(rt, row, text[i])?;
-    }
-    Ok(row)
-}
-
-// Whether the last row has no line end.
-fn is_open(text: &[u8]) -> bool {
-    let n = text.len();
-    if n == 0 {
-        return false;
-    }
-    text[n - 1] != b'\n'
-}
-
-// Reads until the buffer is full, the input ends or a read fails, and says how many bytes it holds.
-fn read_full(rt: &HostRuntime, buffer: &mut [u8]) -> usize
-    ensures { result ≤ length buffer.new }
-{
-    let mut done = 0;
-    while done < buffer.len() {
-        let Ok(n) = rt.stdin().read(&mut buffer[done..]) else {
-            return done;
-        };
-        if n == 0 {
-            return done;
-        }
-        done += n;
-    }
-    done
-}
-
+// A read that fails ends the text, as the input's end does.
 fn main(rt: HostRuntime) -> io::Result<()> {
-    let mut text = [0u8; MOST_BYTES];
-    let n = read_full(&rt, &mut text);
-    let last = walk(&rt, &text[..n])?;
-    if is_open(&text[..n]) {
-        finish(&rt, last)?;
+    let mut text: ArrayVec<u8, MOST_BYTES> = ArrayVec::new();
+    let _ = io::copy(&mut rt.stdin().take(MOST_BYTES as u64), &mut text);
+    let mut out = io::writer(&rt);
+    for line in text.as_slice().split_inclusive(|b| *b == b'\n') {
+        answer_line(line, &mut out)?;
     }
     Ok(())
 }

@@ -1,39 +1,127 @@
-// What a call of `field` answered, and `affine`'s call for a place, which answers in the same way.
-use crate::print;
-use field::{DegreeAnswer, ElementAnswer, NumberAnswer, PolynomialAnswer, TraceAnswer};
+// How an answer is written after its row: each word and each number after a space.
+use field::{
+    DegreeAnswer, Element, ElementAnswer, LogNumber, NumberAnswer, PolynomialAnswer, TraceAnswer,
+};
 use std::io;
+use std::io::Write;
 
-pub fn degree(rt: &HostRuntime, a: DegreeAnswer) -> io::Result<()> {
-    match a {
-        DegreeAnswer::TurnedDown(n) => print::turned_down(rt, n),
-        DegreeAnswer::Degree(m) => print::number(rt, m),
+pub trait Said {
+    fn say<W: Write>(&self, out: &mut W) -> io::Result<()>;
+}
+
+// A row that is no call's.
+#[derive(Clone, Copy)]
+pub struct Malformed;
+
+impl Said for Malformed {
+    fn say<W: Write>(&self, out: &mut W) -> io::Result<()> {
+        write!(out, " turned down by 8")
     }
 }
 
-pub fn element(rt: &HostRuntime, a: ElementAnswer) -> io::Result<()> {
-    match a {
-        ElementAnswer::TurnedDown(n) => print::turned_down(rt, n),
-        ElementAnswer::Found(x) => print::number(rt, x.0),
+// The number by which a call is turned down.
+#[derive(Clone, Copy)]
+pub struct TurnedDown(pub u32);
+
+impl Said for TurnedDown {
+    fn say<W: Write>(&self, out: &mut W) -> io::Result<()> {
+        write!(out, " turned down by {}", self.0)
     }
 }
 
-pub fn trace(rt: &HostRuntime, a: TraceAnswer) -> io::Result<()> {
-    match a {
-        TraceAnswer::TurnedDown(n) => print::turned_down(rt, n),
-        TraceAnswer::Trace(t) => print::number(rt, t),
+impl Said for u32 {
+    fn say<W: Write>(&self, out: &mut W) -> io::Result<()> {
+        write!(out, " {self}")
     }
 }
 
-pub fn number(rt: &HostRuntime, a: NumberAnswer) -> io::Result<()> {
-    match a {
-        NumberAnswer::TurnedDown(n) => print::turned_down(rt, n),
-        NumberAnswer::Found(n) => print::number(rt, n.0),
+impl Said for Element {
+    fn say<W: Write>(&self, out: &mut W) -> io::Result<()> {
+        self.0.say(out)
     }
 }
 
-pub fn polynomial(rt: &HostRuntime, a: PolynomialAnswer) -> io::Result<()> {
-    match a {
-        PolynomialAnswer::TurnedDown(n) => print::turned_down(rt, n),
-        PolynomialAnswer::Polynomial(p) => print::number(rt, p),
+impl Said for LogNumber {
+    fn say<W: Write>(&self, out: &mut W) -> io::Result<()> {
+        self.0.say(out)
+    }
+}
+
+impl<T: Said, E: Said> Said for Result<T, E> {
+    fn say<W: Write>(&self, out: &mut W) -> io::Result<()> {
+        match self {
+            Ok(value) => value.say(out),
+            Err(refused) => refused.say(out),
+        }
+    }
+}
+
+// A place that an answer does not use is to hold 0: only another number is written.
+#[derive(Clone, Copy)]
+pub struct Unused(pub u32);
+
+impl Said for Unused {
+    fn say<W: Write>(&self, out: &mut W) -> io::Result<()> {
+        match self.0 {
+            0 => Ok(()),
+            n => write!(out, ", an unused place holds {n}"),
+        }
+    }
+}
+
+// The places of an answer, of which the first `used` are in use.
+pub fn say_places<W: Write>(places: &[u32], used: usize, out: &mut W) -> io::Result<()> {
+    for (i, n) in places.iter().enumerate() {
+        if i < used {
+            n.say(out)?;
+        } else {
+            Unused(*n).say(out)?;
+        }
+    }
+    Ok(())
+}
+
+impl Said for DegreeAnswer {
+    fn say<W: Write>(&self, out: &mut W) -> io::Result<()> {
+        match *self {
+            DegreeAnswer::TurnedDown(n) => TurnedDown(n).say(out),
+            DegreeAnswer::Degree(m) => m.say(out),
+        }
+    }
+}
+
+impl Said for ElementAnswer {
+    fn say<W: Write>(&self, out: &mut W) -> io::Result<()> {
+        match *self {
+            ElementAnswer::TurnedDown(n) => TurnedDown(n).say(out),
+            ElementAnswer::Found(x) => x.say(out),
+        }
+    }
+}
+
+impl Said for TraceAnswer {
+    fn say<W: Write>(&self, out: &mut W) -> io::Result<()> {
+        match *self {
+            TraceAnswer::TurnedDown(n) => TurnedDown(n).say(out),
+            TraceAnswer::Trace(t) => t.say(out),
+        }
+    }
+}
+
+impl Said for NumberAnswer {
+    fn say<W: Write>(&self, out: &mut W) -> io::Result<()> {
+        match *self {
+            NumberAnswer::TurnedDown(n) => TurnedDown(n).say(out),
+            NumberAnswer::Found(n) => n.say(out),
+        }
+    }
+}
+
+impl Said for PolynomialAnswer {
+    fn say<W: Write>(&self, out: &mut W) -> io::Result<()> {
+        match *self {
+            PolynomialAnswer::TurnedDown(n) => TurnedDown(n).say(out),
+            PolynomialAnswer::Polynomial(p) => p.say(out),
+        }
     }
 }
