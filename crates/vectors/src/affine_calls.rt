@@ -1,6 +1,6 @@
 // What the calls of `affine` answer.
-use crate::said::{Malformed, Said, TurnedDown, Unused, say_places};
-use affine::{AffineAnswer, CountAnswer, RootSpace};
+use crate::said::{Malformed, Said, say_places};
+use affine::RootSpace;
 use std::io;
 use std::io::Write;
 
@@ -11,23 +11,8 @@ const FILLING: u16 = 4242;
 
 impl Said for RootSpace {
     fn say<W: Write>(&self, out: &mut W) -> io::Result<()> {
-        match *self {
-            RootSpace::TurnedDown(n) => TurnedDown(n).say(out),
-            RootSpace::NoRoot => write!(out, " no root"),
-            RootSpace::Found(k) => write!(out, " found, k {k}"),
-        }
-    }
-}
-
-impl Said for AffineAnswer {
-    fn say<W: Write>(&self, out: &mut W) -> io::Result<()> {
-        let base = self.base.0;
-        self.space.say(out)?;
-        let RootSpace::Found(k) = self.space else {
-            Unused(base).say(out)?;
-            return say_places(&self.directions, 0, out);
-        };
-        write!(out, ", base {base}")?;
+        let k = self.dimension;
+        write!(out, " found, k {k}, base {}", self.base.0)?;
         if k != 0 {
             write!(out, ", directions")?;
         }
@@ -35,11 +20,11 @@ impl Said for AffineAnswer {
     }
 }
 
-impl Said for CountAnswer {
+impl Said for Option<RootSpace> {
     fn say<W: Write>(&self, out: &mut W) -> io::Result<()> {
-        match *self {
-            CountAnswer::TurnedDown(n) => TurnedDown(n).say(out),
-            CountAnswer::Count(n) => write!(out, " count {n}"),
+        match self {
+            Some(space) => space.say(out),
+            None => write!(out, " no root"),
         }
     }
 }
@@ -50,7 +35,10 @@ pub fn list<W: Write>(p: u32, room: u32, coefficients: &[u32], out: &mut W) -> i
     let Some(lent) = entries.get_mut(..room as usize) else {
         return Malformed.say(out);
     };
-    affine::list_roots(p, coefficients, lent).say(out)?;
+    match affine::list_roots(p, coefficients, lent) {
+        Ok(count) => write!(out, " count {count}")?,
+        Err(refusal) => refusal.say(out)?,
+    }
     write!(out, ", list")?;
     for entry in lent.iter() {
         write!(out, " {entry}")?;

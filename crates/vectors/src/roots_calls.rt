@@ -1,22 +1,23 @@
 // What the calls of `roots` answer.
-use crate::said::{Said, TurnedDown, Unused, say_places};
+use crate::said::{Said, Unused, say_places};
+use field::Refusal;
+use roots::RootsAnswer;
 use roots::limits::MOST_COEFFICIENTS;
-use roots::{Building, BuiltAnswer, RootCount, RootsAnswer};
 use std::io;
 use std::io::Write;
 
 // What is written before the roots, and how many there are.
-fn say_count<W: Write>(count: RootCount, out: &mut W) -> io::Result<usize> {
+fn say_count<W: Write>(count: Result<u32, Refusal>, out: &mut W) -> io::Result<usize> {
     match count {
-        RootCount::TurnedDown(n) => {
-            TurnedDown(n).say(out)?;
-            Ok(0)
-        }
-        RootCount::Solved(n) => {
+        Ok(n) => {
             if n == 0 {
                 write!(out, " no root")?;
             }
             Ok(n as usize)
+        }
+        Err(refusal) => {
+            refusal.say(out)?;
+            Ok(0)
         }
     }
 }
@@ -37,15 +38,9 @@ impl Said for RootsAnswer {
     }
 }
 
-impl Said for BuiltAnswer {
+// The coefficients of what was built.
+impl Said for [u32; MOST_COEFFICIENTS] {
     fn say<W: Write>(&self, out: &mut W) -> io::Result<()> {
-        let used = match self.building {
-            Building::TurnedDown(n) => {
-                TurnedDown(n).say(out)?;
-                0
-            }
-            Building::Built => MOST_COEFFICIENTS,
-        };
-        say_places(&self.coefficients, used, out)
+        say_places(self, MOST_COEFFICIENTS, out)
     }
 }

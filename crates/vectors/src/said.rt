@@ -1,7 +1,5 @@
 // How an answer is written after its row: each word and each number after a space.
-use field::{
-    DegreeAnswer, Element, ElementAnswer, LogNumber, NumberAnswer, PolynomialAnswer, TraceAnswer,
-};
+use field::{Element, LogNumber, Refusal};
 use std::io;
 use std::io::Write;
 
@@ -19,13 +17,9 @@ impl Said for Malformed {
     }
 }
 
-// The number by which a call is turned down.
-#[derive(Clone, Copy)]
-pub struct TurnedDown(pub u32);
-
-impl Said for TurnedDown {
+impl Said for Refusal {
     fn say<W: Write>(&self, out: &mut W) -> io::Result<()> {
-        write!(out, " turned down by {}", self.0)
+        write!(out, " turned down by {}", self.number())
     }
 }
 
@@ -79,49 +73,4 @@ pub fn say_places<W: Write>(places: &[u32], used: usize, out: &mut W) -> io::Res
         }
     }
     Ok(())
-}
-
-impl Said for DegreeAnswer {
-    fn say<W: Write>(&self, out: &mut W) -> io::Result<()> {
-        match *self {
-            DegreeAnswer::TurnedDown(n) => TurnedDown(n).say(out),
-            DegreeAnswer::Degree(m) => m.say(out),
-        }
-    }
-}
-
-impl Said for ElementAnswer {
-    fn say<W: Write>(&self, out: &mut W) -> io::Result<()> {
-        match *self {
-            ElementAnswer::TurnedDown(n) => TurnedDown(n).say(out),
-            ElementAnswer::Found(x) => x.say(out),
-        }
-    }
-}
-
-impl Said for TraceAnswer {
-    fn say<W: Write>(&self, out: &mut W) -> io::Result<()> {
-        match *self {
-            TraceAnswer::TurnedDown(n) => TurnedDown(n).say(out),
-            TraceAnswer::Trace(t) => t.say(out),
-        }
-    }
-}
-
-impl Said for NumberAnswer {
-    fn say<W: Write>(&self, out: &mut W) -> io::Result<()> {
-        match *self {
-            NumberAnswer::TurnedDown(n) => TurnedDown(n).say(out),
-            NumberAnswer::Found(n) => n.say(out),
-        }
-    }
-}
-
-impl Said for PolynomialAnswer {
-    fn say<W: Write>(&self, out: &mut W) -> io::Result<()> {
-        match *self {
-            PolynomialAnswer::TurnedDown(n) => TurnedDown(n).say(out),
-            PolynomialAnswer::Polynomial(p) => p.say(out),
-        }
-    }
 }
