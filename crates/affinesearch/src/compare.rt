@@ -1,110 +1,116 @@
-// The three calls of `affine` beside what the search and the program's own tests say. `number` is the number that the call is to be turned
-// down by, or 0; `roots` are the roots found, ascending, none where the call is to be turned down.
-ghost use Rattle.std.specs.Prelude.{◌≤◌, length};
+// The three calls of `affine` beside what the search and the program's own tests say.
+use crate::answers;
+use crate::equation::{Equation, PLACES};
+use std::alloc::{AllocError, Global};
+use trial::inner::refusal::Refusal;
 
-use crate::expected::{place_number, refusal_agrees, root_or};
-use crate::listings::listings_agree;
-use crate::search;
-use crate::search::PLACES;
-use affine::RootSpace;
-use field::ElementAnswer;
-use trial::inner::plain::same;
+// The roots, ascending, or why the call is to be turned down.
+pub type Expected<'a> = Result<&'a [u16], Refusal>;
 
-// No element.
-const OUTSIDE: u32 = 65536;
+// No field has more elements, and so no list more roots.
+const ELEMENTS: usize = 65536;
 
-// Whether 2^k is the number of roots.
-fn count_is_power(k: u32, count: usize) -> bool {
-    if 16 < k {
-        return false;
-    }
-    let power: usize = 1 << k;
-    power == count
-}
+// What a lent list is filled with before a call.
+const FILLING: u16 = 43690;
 
-fn space_agrees(space: RootSpace, number: u32, count: usize) -> bool {
-    match space {
-        RootSpace::TurnedDown(n) => refusal_agrees(n, number),
-        RootSpace::NoRoot => number == 0 && count == 0,
-        RootSpace::Found(k) => count_is_power(k, count),
+fn space_agrees(space: Result<Option<u32>, u32>, expected: Expected<'_>) -> bool {
+    match (space, expected) {
+        (Err(number), Err(refusal)) => number == refusal.number(),
+        (Ok(None), Ok(roots)) => roots.is_empty(),
+        (Ok(Some(k)), Ok(roots)) => k <= 16 && 1 << k == roots.len(),
+        _ => false,
     }
 }
 
-fn solve_agrees(
-    p: u32,
-    coefficients: &[u32],
-    number: u32,
-    roots: &[u16],
-    directions: &[u32; PLACES],
-) -> bool {
-    let answer = affine::solve(p, coefficients);
-    let space = answer.space;
-    let base = answer.base;
-    let said = answer.directions;
-    if !space_agrees(space, number, roots.len()) {
-        return false;
-    }
-    if base.0 != root_or(roots, 0, 0) {
-        return false;
-    }
-    same(&said, directions)
+// Without a root the base and the directions are to be 0.
+fn solve_agrees(equation: &Equation<'_>, expected: Expected<'_>) -> bool {
+    let answer = affine::solve(equation.field.polynomial, equation.coefficients);
+    let (base, directions) = match expected {
+        Ok([first, ..]) => (u32::from(*first), equation.directions()),
+        _ => (0, [0; PLACES]),
+    };
+    space_agrees(answers::space(answer.space), expected)
+        && answer.base.0 == base
+        && answer.directions == directions
 }
 
-fn place_agrees(p: u32, coefficients: &[u32], number: u32, roots: &[u16], n: u32) -> bool {
-    let answer = affine::root_at_place(p, coefficients, n);
-    match answer {
-        ElementAnswer::TurnedDown(said) => refusal_agrees(
-            said,
-            place_number(number, n as usize + 1, roots.len()),
-        ),
-        ElementAnswer::Found(x) => x.0 == root_or(roots, n as usize, OUTSIDE),
-    }
+// A listing into a list with so much room, filled before: it is to hold the roots, and the filling after them; one that is too short for the
+// roots stays as it was.
+fn listing_agrees(
+    equation: &Equation<'_>,
+    expected: Expected<'_>,
+    room: usize,
+    alloc: Global,
+) -> Result<bool, AllocError> {
+    let mut list = vec![in alloc; FILLING; room]?;
+    let answer = affine::list_roots(equation.field.polynomial, equation.coefficients, &mut list);
+    let listed = match expected {
+        Ok(roots) if room < roots.len() => Err(Refusal::NoPlace),
+        _ => expected,
+    };
+    let roots = listed.unwrap_or(&[]);
+    let count = listed.map(|roots| roots.len()).map_err(Refusal::number);
+    let rest = list.strip_prefix(roots);
+    Ok(
+        answers::count(answer) == count
+            && rest.is_some_and(|rest| rest.iter().all(|x| *x == FILLING)),
+    )
 }
 
-// How many places were compared: those of the roots, the one after the last, and the largest number. 0 where one differs. From the last
-// place down: as a call takes some time, fewer places are compared the further up they are, and every place below 2,048.
-fn places_compared(p: u32, coefficients: &[u32], number: u32, roots: &[u16]) -> u32
-    requires { length roots.now ≤ 65536 }
-{
-    let count = roots.len() as u32;
-    let mut compared: u32 = 2;
+// Listings into lists that are longer than needed, just long enough, and an entry too short.
+fn listings_agree(
+    equation: &Equation<'_>,
+    expected: Expected<'_>,
+    alloc: Global,
+) -> Result<bool, AllocError> {
+    let count = expected.map_or(0, |roots| roots.len());
+    for room in [count.saturating_add(8), count, count.saturating_sub(1)] {
+        if !listing_agrees(equation, expected, room, alloc)? {
+            return Ok(false);
+        }
+    }
+    Ok(true)
+}
+
+// The root at place n.
+fn root_at_place(expected: Expected<'_>, n: u32) -> Result<u32, Refusal> {
+    let root = expected?.get(n as usize).ok_or(Refusal::NoPlace)?;
+    Ok(u32::from(*root))
+}
+
+fn place_agrees(equation: &Equation<'_>, expected: Expected<'_>, n: u32) -> bool {
+    let answer = affine::root_at_place(equation.field.polynomial, equation.coefficients, n);
+    answers::element(answer) == root_at_place(expected, n).map_err(Refusal::number)
+}
+
+// How many places were compared, if none differs: those of the roots, the one after the last, and the largest number. From the last place
+// down: as a call takes some time, fewer places are compared the further up they are, and every place below 2,048. Such steps are no range's,
+// so the loop carries the place.
+fn places_compared(equation: &Equation<'_>, expected: Expected<'_>) -> Option<u32> {
+    let count = expected.map_or(0, |roots| roots.len().min(ELEMENTS) as u32);
+    let mut compared = 2;
     let mut left = count;
-    while left > 0 {
-        let n = left - 1;
-        if !place_agrees(p, coefficients, number, roots, n) {
-            return 0;
+    while let Some(n) = left.checked_sub(1) {
+        if !place_agrees(equation, expected, n) {
+            return None;
         }
         compared += 1;
         left = n - n / 2048 * 20;
     }
-    if !place_agrees(p, coefficients, number, roots, count) {
-        return 0;
-    }
-    if !place_agrees(p, coefficients, number, roots, 4294967295) {
-        return 0;
-    }
-    compared
+    let agrees = place_agrees(equation, expected, count)
+        && place_agrees(equation, expected, u32::MAX);
+    agrees.then_some(compared)
 }
 
-// All comparisons of an equation's three calls, by the first `count` entries of `found`: how many places were compared, or 0 where
-// something differs.
+// All comparisons of an equation's three calls: how many places were compared, if nothing differs.
 pub fn compared(
-    p: u32,
-    coefficients: &[u32],
-    number: u32,
-    found: &[u16],
-    count: usize,
-    list: &mut [u16],
-) -> u32
-    requires { (count ≤ 65536) × (count ≤ length found.now) × (65544 ≤ length list.old) }
-{
-    let roots = &found[..count];
-    let directions = search::directions(count, p, coefficients);
-    if !solve_agrees(p, coefficients, number, roots, &directions) {
-        return 0;
+    equation: &Equation<'_>,
+    expected: Expected<'_>,
+    alloc: Global,
+) -> Result<Option<u32>, AllocError> {
+    if solve_agrees(equation, expected) && listings_agree(equation, expected, alloc)? {
+        Ok(places_compared(equation, expected))
+    } else {
+        Ok(None)
     }
-    if !listings_agree(p, coefficients, number, roots, list) {
-        return 0;
-    }
-    places_compared(p, coefficients, number, roots)
 }

@@ -1,45 +1,89 @@
-// One call, compared and counted.
-ghost use Rattle.std.specs.Prelude.{◌≤◌, length};
-
-use crate::draw::ROOM;
-use crate::tally::Tally;
-use crate::{compare, own, print, search, tally};
+// One call after another, compared and counted.
+use crate::counts::Counts;
+use crate::polynomial::Polynomial;
+use crate::{compare, search};
 use std::io;
-use trial::inner::plain;
+use trial::inner::plain::Field;
+use trial::inner::print;
+use trial::inner::refusal::{Refusal, Refused};
 
-// A call of `solve` with the first `count` entries of `all`.
-pub fn solve(rt: &HostRuntime, t: Tally, p: u32, all: &[u32], count: usize) -> io::Result<Tally>
-    requires { count ≤ length all.now }
-{
-    let coefficients = &all[..count];
-    let number = own::solve_refusal(p, coefficients);
-    let found = search::roots(number, p, coefficients);
-    let agrees = compare::solve_agrees(p, coefficients, number, found);
-    print::first_difference(rt, t, agrees, "solve ", p, coefficients)?;
-    Ok(tally::with_solve(t, number, search::tried(number, p), found, agrees))
+// Where a difference is printed, and what has been counted: the calls turned down apart.
+#[derive(Clone, Copy)]
+pub struct Calls<'a> {
+    pub rt: &'a HostRuntime,
+    pub solve_refused: Refused<5>,
+    pub build_refused: Refused<4>,
+    pub counts: Counts,
 }
 
-// A call of `build` with the first `count` entries of `all`, and the round trip.
-pub fn build(rt: &HostRuntime, t: Tally, p: u32, all: &[u32], count: usize) -> io::Result<Tally>
-    requires { count ≤ length all.now }
-{
-    let list = &all[..count];
-    let number = plain::list_refusal(p, list, 0, 4);
-    let agrees = compare::build_agrees(p, list, number);
-    print::first_difference(rt, t, agrees, "build ", p, list)?;
-    Ok(tally::with_build(t, number, agrees))
+// Why `solve` is to turn these coefficients down.
+fn solve_check(field: Field, coefficients: &[u32]) -> Result<(), Refusal> {
+    field.check(coefficients, 1, 5)?;
+    if coefficients.iter().any(|c| *c != 0) {
+        Ok(())
+    } else {
+        Err(Refusal::AllZero)
+    }
 }
 
-// Both calls with the same list.
-pub fn both(
-    rt: &HostRuntime,
-    t: Tally,
-    p: u32,
-    all: &[u32; ROOM],
-    count: usize,
-) -> io::Result<Tally>
-    requires { count ≤ 8 }
-{
-    let u = solve(rt, t, p, all, count)?;
-    build(rt, u, p, all, count)
+impl<'a> Calls<'a> {
+    pub fn new(rt: &'a HostRuntime) -> Calls<'a> {
+        Calls {
+            rt,
+            solve_refused: Refused::new(),
+            build_refused: Refused::new(),
+            counts: Counts::default(),
+        }
+    }
+
+    fn difference(&mut self, call: &str, field: Field, list: &[u32]) -> io::Result<()> {
+        let differences = &mut self.counts.differences;
+        print::difference(self.rt, differences, call, field.polynomial, list)
+    }
+
+    // Whether a call of `solve` agrees.
+    fn solve_agrees(&mut self, field: Field, coefficients: &[u32]) -> io::Result<bool> {
+        if let Err(refusal) = solve_check(field, coefficients) {
+            self.solve_refused.count(refusal);
+            return Ok(compare::solve_agrees(field, coefficients, Err(refusal)));
+        }
+        let found = search::solved(Polynomial::padded(field, coefficients), self.rt.alloc())?;
+        self.counts.equations += 1;
+        self.counts.tried += u64::from(field.size());
+        self.counts.roots += found.len() as u64;
+        self.counts.multiple += found.iter().filter(|root| 1 < root.multiplicity).count() as u64;
+        Ok(compare::solve_agrees(field, coefficients, Ok(&found)))
+    }
+
+    // Whether a call of `build` agrees, and the round trip.
+    fn build_agrees(&mut self, field: Field, list: &[u32]) -> io::Result<bool> {
+        let expected = field.check(list, 0, 4);
+        match expected {
+            Ok(()) => self.counts.builds += 1,
+            Err(refusal) => self.build_refused.count(refusal),
+        }
+        Ok(compare::build_agrees(field, list, expected, self.rt.alloc())?)
+    }
+
+    pub fn solve(&mut self, field: Field, coefficients: &[u32]) -> io::Result<()> {
+        if self.solve_agrees(field, coefficients)? {
+            Ok(())
+        } else {
+            self.difference(" solve", field, coefficients)
+        }
+    }
+
+    pub fn build(&mut self, field: Field, list: &[u32]) -> io::Result<()> {
+        if self.build_agrees(field, list)? {
+            Ok(())
+        } else {
+            self.difference(" build", field, list)
+        }
+    }
+
+    // Both calls with the same list.
+    pub fn both(&mut self, field: Field, list: &[u32]) -> io::Result<()> {
+        self.solve(field, list)?;
+        self.build(field, list)
+    }
 }

@@ -1,61 +1,50 @@
-// The two calls of `roots` beside what the search and the program's own tests say. `number` is the number that the call is to be turned
-// down by, or 0.
-use crate::polynomial::PLACES;
-use crate::search;
-use crate::search::Found;
-use roots::{Building, RootCount};
-use trial::inner::plain::same;
+// The two calls of `roots` beside what the search and the program's own tests say.
+use crate::polynomial::{PLACES, Polynomial};
+use crate::search::Root;
+use crate::{answers, search};
+use roots::RootsAnswer;
+use std::alloc::{AllocError, Global};
+use trial::inner::plain::Field;
+use trial::inner::refusal::Refusal;
 
-fn count_agrees(answer: RootCount, number: u32, count: u32) -> bool {
-    match answer {
-        RootCount::TurnedDown(n) => number != 0 && n == number,
-        RootCount::Solved(n) => number == 0 && n == count,
-    }
+// Whether an answer's places hold these roots, and 0 after them.
+fn roots_agree(answer: &RootsAnswer, found: &[Root]) -> bool {
+    let places = answer.roots.iter().zip(&answer.multiplicities);
+    places.enumerate().all(|(i, (element, multiplicity))| {
+        let root = found.get(i).copied().unwrap_or_default();
+        root.element == *element && root.multiplicity == *multiplicity as usize
+    })
 }
 
-fn building_agrees(answer: Building, number: u32) -> bool {
-    match answer {
-        Building::TurnedDown(n) => number != 0 && n == number,
-        Building::Built => number == 0,
-    }
+// Whether `solve` answers by the roots found, or turns the call down for what it is to be.
+pub fn solve_agrees(
+    field: Field,
+    coefficients: &[u32],
+    expected: Result<&[Root], Refusal>,
+) -> bool {
+    let answer = roots::solve(field.polynomial, coefficients);
+    let count = expected.map(|found| found.len()).map_err(Refusal::number);
+    answers::count(answer.count) == count && roots_agree(&answer, expected.unwrap_or(&[]))
 }
 
-// Whether `solve` answers by the roots found, none where the call is to be turned down.
-pub fn solve_agrees(p: u32, coefficients: &[u32], number: u32, found: Found) -> bool {
-    let answer = roots::solve(p, coefficients);
-    let count = answer.count;
-    let said = answer.roots;
-    let often = answer.multiplicities;
-    let expected = found.roots;
-    let multiplicities = found.multiplicities;
-    if !count_agrees(count, number, found.count) {
-        return false;
+// Whether `build` gives the product over the list, or turns the call down for what it is to be; and then whether `solve` gives the list's
+// entries back from the coefficients that were built from them.
+pub fn build_agrees(
+    field: Field,
+    list: &[u32],
+    expected: Result<(), Refusal>,
+    alloc: Global,
+) -> Result<bool, AllocError> {
+    let answer = roots::build(field.polynomial, list);
+    if answers::building(answer.building) != expected.map_err(Refusal::number) {
+        return Ok(false);
     }
-    if !same(&said, &expected) {
-        return false;
+    if expected.is_err() {
+        return Ok(answer.coefficients == [0; PLACES]);
     }
-    same(&often, &multiplicities)
-}
-
-// Whether `solve` gives the list's entries back from the coefficients that were built from them.
-fn round_trip_agrees(p: u32, list: &[u32], number: u32, coefficients: &[u32; PLACES]) -> bool {
-    if number != 0 {
-        return true;
-    }
-    solve_agrees(p, coefficients, 0, search::listed(p, list))
-}
-
-// Whether `build` gives the product over the list, and then the round trip.
-pub fn build_agrees(p: u32, list: &[u32], number: u32) -> bool {
-    let answer = roots::build(p, list);
-    let building = answer.building;
-    let coefficients = answer.coefficients;
-    if !building_agrees(building, number) {
-        return false;
-    }
-    let expected = search::built(number, p, list);
-    if !same(&coefficients, &expected) {
-        return false;
-    }
-    round_trip_agrees(p, list, number, &coefficients)
+    let found = search::listed(field, list, alloc)?;
+    Ok(
+        answer.coefficients == Polynomial::with_roots(field, 1, list).coefficients
+            && solve_agrees(field, &answer.coefficients, Ok(&found)),
+    )
 }

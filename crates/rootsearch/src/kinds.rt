@@ -1,88 +1,120 @@
-// Equations of every kind, of drawn elements. `top` is 2^m.
+// Equations of every kind, of drawn elements.
 ghost use Rattle.std.specs.Prelude.{◌≤◌};
 
-use crate::draw::ROOM;
-use crate::polynomial::PLACES;
-use crate::{polynomial, repeats};
-use trial::inner::plain::product;
+use crate::polynomial::Polynomial;
+use std::alloc::{AllocError, Global};
+use trial::inner::generator::HALF;
+use trial::inner::plain::Field;
 
-// How many kinds there are: one for each list of roots, and as many others.
-pub const KINDS: u32 = 24;
+// Room for a call's list: three more than the coefficients of an equation at most.
+pub const ROOM: usize = 8;
 
-fn nonzero(x: u32) -> u32 {
-    if x == 0 {
-        return 1;
-    }
-    x
-}
+// Which of the drawn elements each entry of a list is.
+#[derive(Clone, Copy)]
+pub struct Pattern(&'static [usize]);
 
-// The equation with its constant, 0 so far, such that x is a root.
-fn rooted(p: u32, top: u32, c: [u32; PLACES], x: u32) -> [u32; PLACES] {
-    let constant = polynomial::value(p, top, c, x);
-    [constant, c[1], c[2], c[3], c[4]]
-}
+// Every way in which some of up to four entries are the same.
+pub const PATTERNS: [Pattern; 12] = [
+    Pattern(&[]),
+    Pattern(&[0]),
+    Pattern(&[0, 1]),
+    Pattern(&[0, 0]),
+    Pattern(&[0, 1, 2]),
+    Pattern(&[0, 1, 0]),
+    Pattern(&[0, 0, 0]),
+    Pattern(&[0, 1, 2, 3]),
+    Pattern(&[0, 1, 2, 0]),
+    Pattern(&[0, 1, 1, 0]),
+    Pattern(&[0, 1, 0, 0]),
+    Pattern(&[0, 0, 0, 0]),
+];
 
-// Quartics. In turn: one with the root a that is the square root s of c1/c3, for which no s + 1/y stands; one that is affine; a square; one
-// with s = 0, a root or not; any.
-fn quartic(kind: u32, p: u32, top: u32, leading: u32, drawn: [u32; ROOM]) -> [u32; PLACES] {
-    let a = drawn[0];
-    let b = drawn[1];
-    let c = drawn[2];
-    let d = nonzero(drawn[3]);
-    let first = product(p, top, product(p, top, d, a), a);
-    match kind {
-        12 => rooted(p, top, [0, first, b, d, leading], a),
-        13 => [a, b, c, 0, leading],
-        14 => [a, 0, c, 0, leading],
-        15 => [a, 0, c, d, leading],
-        _ => [a, b, c, d, leading],
+impl Pattern {
+    pub fn list(self, drawn: &[u32; ROOM], alloc: Global) -> Result<Vec<u32>, AllocError> {
+        self.0.iter().map(|i| drawn[i % ROOM]).collect(alloc)
     }
 }
 
-// Cubics, the leading coefficient times x^3 + a·x^2 + .., and a quadratic. In turn: (x + a)^3 with a constant added, any or such that b is
-// a root; one with the root a, that of the factor x + a which makes it affine; any cubic; any quadratic.
-fn lower(kind: u32, p: u32, top: u32, leading: u32, drawn: [u32; ROOM]) -> [u32; PLACES] {
-    let a = drawn[0];
-    let b = drawn[1];
-    let second = product(p, top, leading, a);
-    let first = product(p, top, second, a);
-    match kind {
-        17 => [b, first, second, leading, 0],
-        18 => rooted(p, top, [0, first, second, leading, 0], b),
-        19 => rooted(p, top, [0, b, second, leading, 0], a),
-        20 => [a, b, drawn[2], leading, 0],
-        _ => [a, b, leading, 0, 0],
-    }
+#[derive(Clone, Copy, PartialEq, Eq)]
+pub enum Kind {
+    // With the roots of a list.
+    Listed,
+    // With the root a that is the square root s of c1/c3, for which no s + 1/y stands.
+    SpecialRoot,
+    AffineQuartic,
+    Square,
+    // With s = 0, a root or not.
+    NoLinearTerm,
+    Quartic,
+    // (x + a)^3 times the leading coefficient with a constant added, any or such that b is a root.
+    Cube,
+    RootedCube,
+    // With the root a, that of the factor x + a which makes it affine.
+    AffineFactor,
+    Cubic,
+    Quadratic,
+    // The drawn elements as they are, half of them 0.
+    Drawn,
 }
 
-// The equation of a kind, of the drawn elements. The last kinds have them as they are.
-pub fn equation(kind: u32, p: u32, top: u32, drawn: [u32; ROOM]) -> [u32; PLACES] {
-    let leading = nonzero(drawn[7]);
-    match kind {
-        0..=11 => repeats::equation(kind, p, top, leading, drawn),
-        12..=16 => quartic(kind, p, top, leading, drawn),
-        17..=21 => lower(kind, p, top, leading, drawn),
-        _ => polynomial::padded(&drawn),
-    }
-}
+// The kinds that are drawn beside those from a list.
+pub const OTHERS: [Kind; 12] = [
+    Kind::SpecialRoot,
+    Kind::AffineQuartic,
+    Kind::Square,
+    Kind::NoLinearTerm,
+    Kind::Quartic,
+    Kind::Cube,
+    Kind::RootedCube,
+    Kind::AffineFactor,
+    Kind::Cubic,
+    Kind::Quadratic,
+    Kind::Drawn,
+    Kind::Drawn,
+];
 
-// Below which generator's number a drawn element is 0: half of them for the last kinds, whose equations are to have many zeros.
-pub fn zeros(kind: u32) -> u64 {
-    if kind < 22 {
-        return 0;
+impl Kind {
+    // Below which generator's number a drawn element is 0.
+    pub fn zeros(self) -> u32 {
+        if self == Kind::Drawn { HALF } else { 0 }
     }
-    2147483648
-}
 
-// How many coefficients an equation of a kind has at least: all up to its degree, and one for the last kinds.
-pub fn places(kind: u32) -> u32
-    ensures { result ≤ 5 }
-{
-    match kind {
-        0..=11 => repeats::count(kind) + 1,
-        12..=16 => 5,
-        17..=20 => 4,
-        21 => 3,
-        _ => 1,
+    // The equation of the drawn elements, or with the roots of the list.
+    pub fn equation(self, field: Field, drawn: &[u32; ROOM], list: &[u32]) -> Polynomial {
+        let [a, b, c, d, ..] = *drawn;
+        let leading = drawn[7].max(1);
+        let second = field.product(leading, a);
+        let first = field.product(second, a);
+        let third = d.max(1);
+        let special = field.product(field.product(third, a), a);
+        let of = |coefficients| Polynomial {
+            field,
+            coefficients,
+        };
+        match self {
+            Kind::Listed => Polynomial::with_roots(field, leading, list),
+            Kind::SpecialRoot => of([0, special, b, third, leading]).rooted(a),
+            Kind::AffineQuartic => of([a, b, c, 0, leading]),
+            Kind::Square => of([a, 0, c, 0, leading]),
+            Kind::NoLinearTerm => of([a, 0, c, third, leading]),
+            Kind::Quartic => of([a, b, c, third, leading]),
+            Kind::Cube => of([b, first, second, leading, 0]),
+            Kind::RootedCube => of([0, first, second, leading, 0]).rooted(b),
+            Kind::AffineFactor => of([0, b, second, leading, 0]).rooted(a),
+            Kind::Cubic => of([a, b, c, leading, 0]),
+            Kind::Quadratic => of([a, b, leading, 0, 0]),
+            Kind::Drawn => Polynomial::padded(field, drawn),
+        }
+    }
+
+    // How many of an equation's coefficients are to be given at least: all up to its degree, but one where it is as drawn.
+    pub fn least(self, equation: &Polynomial) -> usize
+        ensures { result ≤ 5 }
+    {
+        if self == Kind::Drawn {
+            1
+        } else {
+            equation.places()
+        }
     }
 }

@@ -1,8 +1,5 @@
 -- `product` ends: the bits that are left run out. Assumes nothing.
-use Rattle.trial.proofs.inner.plain.product.Given as goal
-
-abbrev pub invariant-loop-rest : goal.invariant-loop-rest
-invariant-loop-rest l = Unit {0}
+use Rattle.trial.proofs.inner.plain.Field.product.Given as goal
 
 abbrev pub decreases-loop-rest : goal.decreases-loop-rest
 decreases-loop-rest l = l.rest

@@ -1,9 +1,0 @@
--- `same` is safe: the two lists have one length. Assumes nothing.
-use Prim.Native.Nat.{◌-◌}
-use Rattle.trial.proofs.inner.plain.same.Given as goal
-
-abbrev pub invariant-loop-i : goal.invariant-loop-i
-invariant-loop-i l = Unit {0}
-
-abbrev pub decreases-loop-i : goal.decreases-loop-i
-decreases-loop-i l = l.i-end - l.i
