@@ -12,7 +12,7 @@ use Rattle.frames.specs.Answer.{answer_bytes, answer_text}
 use Rattle.frames.specs.Stream.{line_feed, last_line, answer_line, answers_of, held, lengthened, kept_after, last_written}
 use Rattle.frames.proofs.Held.{held_front, held_more, long_answer, kept_length, kept_all}
 
--- n and the lent list hold the bytes cur of a line: how many, up to one too many, and which, as long as they are not too many
+-- n and the list that keeps the line hold the bytes cur of a line: how many, up to one too many, and which, as long as they are not too many
 pub record Holds (n : ℕ) (line cur : List ℕ) : Type 0 where
   pub full : length line ≡ most_digits
   pub count : n ≡ min (length cur) (most_digits + 1)

@@ -1,4 +1,5 @@
--- Text stored into a lent list, piece after piece (`put_then`), and lengths (`text-length`, `text-append`, `up_to_length`). Assumes nothing.
+-- Text stored into a lent list, piece after piece (`put_then`, `put_next`) with a character after it (`put_last`); a list that grows piece by
+-- piece (`grown`); and lengths (`text-length`, `text-append`, `up_to_length`). Assumes nothing.
 use mathlib.Core.Path.{◌≡◌, refl, sym, ap, ap₂, ◌∙◌}
 use mathlib.Core.List.{List, [], ◌∷◌, ◌++◌, append_assoc}
 use Prim.Native.Nat.{ℕ, zero, suc, ◌+◌, ◌*◌, ◌/◌, ◌%◌, ◌<◌}

@@ -1,4 +1,4 @@
--- What is answered to a frame line (01, "Frame lines"). Assumes nothing.
+-- What is answered to a frame line. Assumes nothing.
 use Rattle.std.specs.Prelude.{Bool, true, false, List, [], ◌∷◌, ◌++◌, ℕ, ◌≤◌, eqb, get_or}
 use Rattle.field.specs.Refusal.{refusal, Outcome, turned_down, gives, answer_by}
 use Rattle.linear.specs.Limits.{places}

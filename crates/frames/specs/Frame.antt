@@ -1,4 +1,4 @@
--- What a frame line says, and when it is malformed (01, "Frame lines"). A line is the list of its bytes as they were read, so its characters.
+-- What a frame line says, and when it is malformed. A line is the list of its bytes as they were read, so its characters.
 -- Assumes nothing.
 use Rattle.std.specs.Prelude.{◌≡◌, Bool, true, false, not, ◌||◌, ◌&&◌, List, [], ◌∷◌, map, ℕ, ◌+◌, ◌-◌, ◌*◌, ◌/◌, ◌%◌, ◌≤◌, eqb, leb, ltb, length, get_or}
 use Rattle.algebra.specs.Lists.{count_up}
@@ -66,7 +66,7 @@ line_tests l =
     ∷ ltb most_digits (length l) ⇒ 8
     ∷ []
 
--- what the code asks of a line: not too long, and as long as its count says
+-- a line that is not too long, and as long as its count says
 pub record WellFormed (l : List ℕ) : Type 0 where
   pub short : length l ≤ most_digits
   pub agrees : length l ≡ 10 + 4 * count_of l

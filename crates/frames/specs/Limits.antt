@@ -1,4 +1,4 @@
--- How long lines and answers get (01, "Frame lines"). Assumes nothing.
+-- How long lines and answers get. Assumes nothing.
 use Rattle.std.specs.Prelude.{ℕ}
 
 -- "more than 1,030 digits: malformed"

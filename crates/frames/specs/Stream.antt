@@ -1,4 +1,4 @@
--- The lines of an input that comes in chunks, and what is written for them (01, "Frame lines"). Assumes nothing.
+-- The lines of an input that comes in chunks, and what is written for them. Assumes nothing.
 use Rattle.std.specs.Prelude.{Bool, true, false, List, [], ◌∷◌, ◌++◌, ℕ, zero, suc, ◌+◌, ◌-◌, min, eqb, ltb, length, take, drop}
 use Rattle.std.proofs.lemmas.List.Edits.{sets}
 use Rattle.algebra.specs.Lists.{padded}
@@ -98,7 +98,7 @@ abbrev pub after_chunks : List (List ℕ) → Stream → Stream
 after_chunks [] s = s
 after_chunks (chunk ∷ chunks) s = after_chunks chunks (after_calls (length chunk) chunk s)
 
--- all that is written for an input in chunks, from the start, whatever stands in the list that is lent for the line
+-- all that is written for an input in chunks, from the start, whatever stands in the list that keeps the line
 abbrev pub written : List ℕ → List (List ℕ) → List ℕ
 written line chunks =
     let s = after_chunks chunks (record { length = 0; line = line; written = [] }) in

@@ -1,4 +1,4 @@
--- Bytes as hexadecimal in capitals, and text stored into a lent list (01, "Frame lines"). Assumes nothing.
+-- Bytes as hexadecimal in capitals, and text stored into a lent list. Assumes nothing.
 use Rattle.std.specs.Prelude.{◌≡◌, true, false, List, [], ◌∷◌, ◌++◌, ℕ, zero, suc, ◌+◌, ◌*◌, ◌/◌, ◌%◌, ◌≤◌, ltb, length, take}
 use Rattle.std.proofs.lemmas.List.Edits.{sets}
 
