@@ -1,26 +1,16 @@
-// The library's answers: what was found, or the number that the call was turned down by.
-use affine::{CountAnswer, RootSpace};
-use field::ElementAnswer;
+// The library's answers beside the program's own: a refusal by its number.
+use field::{Element, Refusal};
 
-// The number of directions, where there are roots.
-pub fn space(answer: RootSpace) -> Result<Option<u32>, u32> {
+pub fn count(answer: Result<u32, Refusal>) -> Result<usize, u32> {
     match answer {
-        RootSpace::TurnedDown(number) => Err(number),
-        RootSpace::NoRoot => Ok(None),
-        RootSpace::Found(k) => Ok(Some(k)),
+        Ok(n) => Ok(n as usize),
+        Err(refusal) => Err(refusal.number()),
     }
 }
 
-pub fn count(answer: CountAnswer) -> Result<usize, u32> {
+pub fn element(answer: Result<Element, Refusal>) -> Result<u32, u32> {
     match answer {
-        CountAnswer::TurnedDown(number) => Err(number),
-        CountAnswer::Count(n) => Ok(n as usize),
-    }
-}
-
-pub fn element(answer: ElementAnswer) -> Result<u32, u32> {
-    match answer {
-        ElementAnswer::TurnedDown(number) => Err(number),
-        ElementAnswer::Found(x) => Ok(x.0),
+        Ok(x) => Ok(x.0),
+        Err(refusal) => Err(refusal.number()),
     }
 }

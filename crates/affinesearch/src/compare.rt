@@ -1,6 +1,7 @@
 // The three calls of `affine` beside what the search and the program's own tests say.
 use crate::answers;
-use crate::equation::{Equation, PLACES};
+use crate::equation::Equation;
+use affine::RootSpace;
 use std::alloc::{AllocError, Global};
 use trial::inner::refusal::Refusal;
 
@@ -13,25 +14,24 @@ const ELEMENTS: usize = 65536;
 // What a lent list is filled with before a call.
 const FILLING: u16 = 43690;
 
-fn space_agrees(space: Result<Option<u32>, u32>, expected: Expected<'_>) -> bool {
-    match (space, expected) {
-        (Err(number), Err(refusal)) => number == refusal.number(),
-        (Ok(None), Ok(roots)) => roots.is_empty(),
-        (Ok(Some(k)), Ok(roots)) => k <= 16 && 1 << k == roots.len(),
-        _ => false,
-    }
+fn space_agrees(space: &RootSpace, equation: &Equation<'_>, roots: &[u16]) -> bool {
+    let k = space.dimension;
+    k <= 16
+        && 1 << k == roots.len()
+        && roots
+            .first()
+            .is_some_and(|base| u32::from(*base) == space.base.0)
+        && space.directions == equation.directions()
 }
 
-// Without a root the base and the directions are to be 0.
 fn solve_agrees(equation: &Equation<'_>, expected: Expected<'_>) -> bool {
     let answer = affine::solve(equation.field.polynomial, equation.coefficients);
-    let (base, directions) = match expected {
-        Ok([first, ..]) => (u32::from(*first), equation.directions()),
-        _ => (0, [0; PLACES]),
-    };
-    space_agrees(answers::space(answer.space), expected)
-        && answer.base.0 == base
-        && answer.directions == directions
+    match (answer, expected) {
+        (Err(said), Err(refusal)) => said.number() == refusal.number(),
+        (Ok(None), Ok(roots)) => roots.is_empty(),
+        (Ok(Some(space)), Ok(roots)) => space_agrees(&space, equation, roots),
+        _ => false,
+    }
 }
 
 // A listing into a list with so much room, filled before: it is to hold the roots, and the filling after them; one that is too short for the

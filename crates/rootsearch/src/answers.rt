@@ -1,16 +1,9 @@
-// The library's answers: what was found, or the number that the call was turned down by.
-use roots::{Building, RootCount};
+// The library's answers beside the program's own: a refusal by its number.
+use field::Refusal;
 
-pub fn count(answer: RootCount) -> Result<usize, u32> {
+pub fn count(answer: Result<u32, Refusal>) -> Result<usize, u32> {
     match answer {
-        RootCount::TurnedDown(number) => Err(number),
-        RootCount::Solved(n) => Ok(n as usize),
-    }
-}
-
-pub fn building(answer: Building) -> Result<(), u32> {
-    match answer {
-        Building::TurnedDown(number) => Err(number),
-        Building::Built => Ok(()),
+        Ok(n) => Ok(n as usize),
+        Err(refusal) => Err(refusal.number()),
     }
 }

@@ -1,5 +1,5 @@
 // The two calls of `roots` beside what the search and the program's own tests say.
-use crate::polynomial::{PLACES, Polynomial};
+use crate::polynomial::Polynomial;
 use crate::search::Root;
 use crate::{answers, search};
 use roots::RootsAnswer;
@@ -35,16 +35,15 @@ pub fn build_agrees(
     expected: Result<(), Refusal>,
     alloc: Global,
 ) -> Result<bool, AllocError> {
-    let answer = roots::build(field.polynomial, list);
-    if answers::building(answer.building) != expected.map_err(Refusal::number) {
-        return Ok(false);
+    match (roots::build(field.polynomial, list), expected) {
+        (Err(said), Err(refusal)) => Ok(said.number() == refusal.number()),
+        (Ok(coefficients), Ok(())) => {
+            let found = search::listed(field, list, alloc)?;
+            Ok(
+                coefficients == Polynomial::with_roots(field, 1, list).coefficients
+                    && solve_agrees(field, &coefficients, Ok(&found)),
+            )
+        }
+        _ => Ok(false),
     }
-    if expected.is_err() {
-        return Ok(answer.coefficients == [0; PLACES]);
-    }
-    let found = search::listed(field, list, alloc)?;
-    Ok(
-        answer.coefficients == Polynomial::with_roots(field, 1, list).coefficients
-            && solve_agrees(field, &answer.coefficients, Ok(&found)),
-    )
 }
