@@ -3,9 +3,8 @@
 use mathlib.Core.Path.{◌≡◌, refl, sym, ap, ◌∙◌, subst}
 use mathlib.Core.Logic.{◌≢◌, ◌⊎◌, inl, inr}
 use mathlib.Core.List.{List, [], ◌∷◌}
-use Prim.Native.Nat.{ℕ, suc, ◌<◌}
+use Prim.Native.Nat.{ℕ, ◌<◌}
 use native.Mathlib.Omega.{arith}
-use lib.ListN.{length}
 use Rattle.algebra.proofs.Ascending.{ascending_nodup}
 use Rattle.binary.specs.Xor.{◌⊕◌}
 use Rattle.binary.proofs.Xor.{xor-zero, xor_self, equal_of_xor}
@@ -18,10 +17,7 @@ use Rattle.galois.proofs.Padding.{value_pad}
 use Rattle.galois.proofs.RootList.{roots_iff, roots_ascending}
 use Rattle.arithmetic.specs.Quotient.{quotient_of}
 use Rattle.arithmetic.proofs.Quotient.{quotient_is, quotient-product, quotient_lt}
-use Rattle.roots.specs.Limits.{most_roots}
 use Rattle.roots.specs.Equation.{Ready, HoldsRoots}
-use Rattle.roots.specs.Unsorted.{Holds, AreRoots}
-use Rattle.roots.specs.declared.inner.unsorted.Unsorted.{Unsorted}
 
 pub positive : (n : ℕ) → n ≢ 0 → 0 < n
 positive n h = omega arith
@@ -30,25 +26,22 @@ positive n h = omega arith
 pub ready_as : (m p : ℕ) (f g : List ℕ) → f ≡ g → Ready m p f → Ready m p g
 ready_as m p f g e R = subst (Ready m p) e R
 
-pub roots_as : (m p : ℕ) (f g : List ℕ) (u : Unsorted) → f ≡ g → AreRoots m p g u → AreRoots m p f u
-roots_as m p f g u e A = subst (λ (l : List ℕ). AreRoots m p l u) (sym e) A
+pub roots_as : (m p : ℕ) (f g xs : List ℕ) → f ≡ g → HoldsRoots m p g xs → HoldsRoots m p f xs
+roots_as m p f g xs e H = subst (λ (l : List ℕ). HoldsRoots m p l xs) (sym e) H
 
 -- an equation that is affine as it stands
-pub affine_roots : (m p : ℕ) (f : List ℕ) (u : Unsorted) → Holds (roots_of m p f) u → AreRoots m p f u
-affine_roots m p f u H =
-    (subst (HoldsRoots m p f) (sym H.0) (record { are = roots_iff m p f; once = ascending_nodup (roots_of m p f) (roots_ascending m p f) }), H.1)
+pub affine_roots : (m p : ℕ) (f xs : List ℕ) → xs ≡ roots_of m p f → HoldsRoots m p f xs
+affine_roots m p f xs e =
+    subst (HoldsRoots m p f) (sym e) (record { are = roots_iff m p f; once = ascending_nodup (roots_of m p f) (roots_ascending m p f) })
 
 value_one : (p c0 x : ℕ) → value p (c0 ∷ []) x ≡ c0
 unfolding value
 value_one p c0 x = ap (λ (v : ℕ). c0 ⊕ v) (product-zero p x) ∙ xor-zero c0
 
 -- a constant that is not 0 has no root
-pub constant_roots : (m p c0 : ℕ) (list : List ℕ) → Ready m p (c0 ∷ 0 ∷ 0 ∷ 0 ∷ 0 ∷ []) → length list ≡ most_roots
-    → AreRoots m p (c0 ∷ 0 ∷ 0 ∷ 0 ∷ 0 ∷ []) (record { count = 0; list = list })
-constant_roots m p c0 list R l = (
-  record { are = λ x. (λ k. absurd k, λ k. R.nonzero (zero x k, (refl, (refl, (refl, (refl, tt)))))); once = tt },
-  record { few = omega arith; long = l },
-)
+pub constant_roots : (m p c0 : ℕ) → Ready m p (c0 ∷ 0 ∷ 0 ∷ 0 ∷ 0 ∷ []) → HoldsRoots m p (c0 ∷ 0 ∷ 0 ∷ 0 ∷ 0 ∷ []) []
+constant_roots m p c0 R =
+    record { are = λ x. (λ k. absurd k, λ k. R.nonzero (zero x k, (refl, (refl, (refl, (refl, tt)))))); once = tt }
   where
     zero : (x : ℕ) → Root m p (c0 ∷ 0 ∷ 0 ∷ 0 ∷ 0 ∷ []) x → c0 ≡ 0
     zero x k = sym (value_pad p (c0 ∷ []) 4 x ∙ value_one p c0 x) ∙ k.1
@@ -58,12 +51,9 @@ value_two : (p c0 c1 x : ℕ) → value p (c0 ∷ c1 ∷ []) x ≡ c0 ⊕ produc
 unfolding value
 value_two p c0 c1 x = ap (λ (v : ℕ). c0 ⊕ product p x v) (value_one p c1 x)
 
-pub linear_roots : (m p c0 c1 q : ℕ) (list : List ℕ) → Ready m p (c0 ∷ c1 ∷ 0 ∷ 0 ∷ 0 ∷ []) → c1 ≢ 0 → q ≡ quotient_of m p c0 c1
-    → suc (length list) ≡ most_roots → AreRoots m p (c0 ∷ c1 ∷ 0 ∷ 0 ∷ 0 ∷ []) (record { count = 1; list = q ∷ list })
-linear_roots m p c0 c1 q list R n e l = (
-  record { are = λ x. (root x, λ k. inl (only x k)); once = (λ k. k, tt) },
-  record { few = omega arith; long = l },
-)
+pub linear_roots : (m p c0 c1 q : ℕ) → Ready m p (c0 ∷ c1 ∷ 0 ∷ 0 ∷ 0 ∷ []) → c1 ≢ 0 → q ≡ quotient_of m p c0 c1
+    → HoldsRoots m p (c0 ∷ c1 ∷ 0 ∷ 0 ∷ 0 ∷ []) (q ∷ [])
+linear_roots m p c0 c1 q R n e = record { are = λ x. (root x, λ k. inl (only x k)); once = (λ k. k, tt) }
   where
     F : Field m p
     F = R.field.field

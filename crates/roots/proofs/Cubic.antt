@@ -8,7 +8,6 @@ use native.Mathlib.Decide.{ℕ_discrete}
 use native.Mathlib.Omega.{arith}
 use lib.Bits.{bit_xor}
 use lib.ListN.{length, drop}
-use lib.Seq.{length-take-le}
 use lib.Pow.{pow_pos}
 use Rattle.algebra.specs.Expression.{var, O, ◌⊕◌ as ◌∔◌, ◌⊗◌}
 use Rattle.algebra.specs.Lists.{Member, Nodup, Ascending}
@@ -30,8 +29,6 @@ use Rattle.galois.proofs.RootList.{roots_iff, roots_ascending}
 use Rattle.arithmetic.specs.Quotient.{quotient_of}
 use Rattle.arithmetic.proofs.Quotient.{quotient-product, quotient_lt}
 use Rattle.roots.specs.Equation.{Ready, HoldsRoots, quartic_of}
-use Rattle.roots.specs.Unsorted.{entries, Fits, Holds, AreRoots}
-use Rattle.roots.specs.declared.inner.unsorted.Unsorted.{Unsorted}
 use Rattle.roots.proofs.Completing.{positive}
 
 -- 0 comes first in what ascends
@@ -181,25 +178,18 @@ module _ (m p c0 c1 c2 c3 : ℕ) (R : Ready m p (c0 ∷ c1 ∷ c2 ∷ c3 ∷ 0 �
     pub made_ready : Ready m p h
     made_ready = subst (Ready m p) (sym made) cubic_ready
 
-    module _ (u : Unsorted) (H : Holds (roots_of m p h) u) where
-      u_is : entries u ≡ zs
-      u_is = H.0 ∙ ap (roots_of m p) made
+    module _ (u : List ℕ) (H : u ≡ roots_of m p h) where
+      u_is : u ≡ zs
+      u_is = H ∙ ap (roots_of m p) made
 
-      pub made_first : Fits u × (0 < u.count)
-      made_first =
-          let e = ap length (u_is ∙ first_is) in
-          let k = length-take-le u.count u.list (omega (arith, H.1.few, H.1.long)) in
-          (H.1, omega arith)
+      pub made_first : 0 < length u
+      made_first = let e = ap length (u_is ∙ first_is) in omega arith
 
-      pub all_roots_lem : bit_xor c0 a ≡ 0 → (r : Unsorted) → Holds (map (λ z. z ⊕ q) (entries u)) r → AreRoots m p f r
-      all_roots_lem e r W = (
-        subst (HoldsRoots m p f) (sym (W.0 ∙ ap₂ (λ (v : ℕ) (l : List ℕ). map (λ z. z ⊕ v) l) eq u_is)) (moved_roots zs zs_once (all_are (sym l0_is ∙ e))),
-        W.1,
-      )
+      pub all_roots_lem : bit_xor c0 a ≡ 0 → (r : List ℕ) → r ≡ map (λ z. z ⊕ q) u → HoldsRoots m p f r
+      all_roots_lem e r k =
+          subst (HoldsRoots m p f) (sym (k ∙ ap₂ (λ (v : ℕ) (l : List ℕ). map (λ z. z ⊕ v) l) eq u_is)) (moved_roots zs zs_once (all_are (sym l0_is ∙ e)))
 
-      pub kept_roots : bit_xor c0 a ≢ 0 → (k r : Unsorted) → Holds (drop 1 (entries u)) k → Holds (map (λ z. z ⊕ q) (entries k)) r → AreRoots m p f r
-      kept_roots e k r K W = (
-        subst (HoldsRoots m p f) (sym (W.0 ∙ ap₂ (λ (v : ℕ) (l : List ℕ). map (λ z. z ⊕ v) l) eq (K.0 ∙ ap (drop 1) u_is)))
-            (moved_roots (drop 1 zs) rest_once.1 (kept_are (λ z. e (l0_is ∙ z)))),
-        W.1,
-      )
+      pub kept_roots : bit_xor c0 a ≢ 0 → (k r : List ℕ) → k ≡ drop 1 u → r ≡ map (λ z. z ⊕ q) k → HoldsRoots m p f r
+      kept_roots e k r g w =
+          subst (HoldsRoots m p f) (sym (w ∙ ap₂ (λ (v : ℕ) (l : List ℕ). map (λ z. z ⊕ v) l) eq (g ∙ ap (drop 1) u_is)))
+          (moved_roots (drop 1 zs) rest_once.1 (kept_are (λ z. e (l0_is ∙ z))))

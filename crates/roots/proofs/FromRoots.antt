@@ -1,14 +1,16 @@
 -- Building from the last root to the first: the roots from place i on are in, and the places above are 0. Assumes nothing.
 use mathlib.Core.Path.{◌≡◌, refl, sym, ap, ap₂, ◌∙◌}
 use mathlib.Core.List.{List, [], ◌∷◌, ◌++◌}
-use Prim.Native.Nat.{ℕ, suc, ◌+◌, ◌-◌, ◌≤◌}
+use Prim.Native.Nat.{ℕ, suc, ◌+◌, ◌-◌, ◌^◌, ◌≤◌, ◌<◌}
 use native.Mathlib.Omega.{arith}
 use lib.ListN.{length, get_or, take, drop, replicate, length-drop}
 use lib.Seq.{drop-cons, drop-length, take_at, drop_at, drop-drop}
 use Rattle.algebra.specs.Lists.{padded}
 use Rattle.galois.specs.Field.{Field}
-use Rattle.galois.specs.Polynomial.{Coeffs, with_root, build}
-use Rattle.galois.proofs.Build.{build-length, build_coeffs}
+use Rattle.galois.specs.Polynomial.{with_root, build}
+use Rattle.galois.proofs.Field.{one_lt}
+use Rattle.galois.proofs.Polynomial.{coeff_at}
+use Rattle.galois.proofs.Build.{build-length}
 use Rattle.galois.proofs.Padding.{coeffs_pad}
 use Rattle.roots.specs.Limits.{most_roots, most_coefficients}
 
@@ -17,16 +19,17 @@ pub record Built (p : ℕ) (rs f : List ℕ) (i : ℕ) : Type 0 where
   pub few : length rs ≤ most_roots
   pub so_far : f ≡ build p (drop i rs) ++ replicate (most_roots - (length rs - i)) 0
 
-pub building_start : (p : ℕ) (rs : List ℕ) → length rs ≤ most_roots → Built p rs (1 ∷ 0 ∷ 0 ∷ 0 ∷ 0 ∷ []) (length rs)
+pub building_start : (p : ℕ) (rs f : List ℕ) → f ≡ 1 ∷ 0 ∷ 0 ∷ 0 ∷ 0 ∷ [] → length rs ≤ most_roots → Built p rs f (length rs)
 unfolding build
-building_start p rs h =
+building_start p rs f e h =
     let z : length rs - length rs ≡ 0 = omega arith in
-    record { within = omega arith; few = h; so_far = rw (z, drop-length rs) refl }
+    record { within = omega arith; few = h; so_far = e ∙ (rw (z, drop-length rs) refl) }
+
+-- 1, in five places
+pub one_small : (m p : ℕ) → Field m p → (i : ℕ) → get_or (1 ∷ 0 ∷ 0 ∷ 0 ∷ 0 ∷ []) i 0 < 2 ^ m
+one_small m p F i = coeff_at m (1 ∷ 0 ∷ 0 ∷ 0 ∷ 0 ∷ []) i (coeffs_pad m (1 ∷ []) 4 (one_lt m p F, tt))
 
 module _ (p : ℕ) (rs f : List ℕ) (i : ℕ) (B : Built p rs f i) where
-  pub building_small : (m : ℕ) → Field m p → Coeffs m f
-  building_small m F = rw B.so_far (coeffs_pad m (build p (drop i rs)) (most_roots - (length rs - i)) (build_coeffs m p F (drop i rs)))
-
   done_length : length (build p (drop i rs)) ≡ suc (length rs - i)
   done_length = build-length p (drop i rs) ∙ ap suc (length-drop i rs)
 

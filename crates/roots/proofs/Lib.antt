@@ -1,10 +1,12 @@
 pub mod Zeros
 pub mod Tests
 pub mod Answered
+pub mod Equations
+pub mod Entries
+pub mod ShortLists
 pub mod Insertion
 pub mod Division
 pub mod Counting
-pub mod Entries
 pub mod Derivative
 pub mod Highest
 pub mod FromRoots

@@ -7,7 +7,6 @@ use Prim.Native.Nat.{ℕ, ◌-◌, ◌^◌, ◌<◌}
 use native.Mathlib.Omega.{arith}
 use lib.Bits.{bit_xor}
 use lib.ListN.{length, get_or}
-use lib.Seq.{length-take-le}
 use Rattle.binary.specs.Xor.{◌⊕◌}
 use Rattle.binary.proofs.Xor.{is_xor, xor_lt}
 use Rattle.binary.specs.Product.{product}
@@ -20,8 +19,6 @@ use Rattle.arithmetic.specs.Quotient.{quotient_of}
 use Rattle.arithmetic.proofs.Quotient.{quotient_lt}
 use Rattle.roots.specs.Limits.{most_roots}
 use Rattle.roots.specs.Equation.{Ready, HoldsRoots, Units, quartic_of, shift, from_inverse}
-use Rattle.roots.specs.Unsorted.{entries, Fits, Holds, AreRoots}
-use Rattle.roots.specs.declared.inner.unsorted.Unsorted.{Unsorted}
 use Rattle.roots.proofs.Entries.{five_entries}
 use Rattle.roots.proofs.Completing.{positive}
 use Rattle.roots.proofs.Quartic.{at_shift, quartic_ready, quartic_units, quartic_others, quartic_roots, quartic_room}
@@ -89,37 +86,32 @@ module _ (m p : ℕ) (f : List ℕ) (five : length f ≡ 5) (R : Ready m p f) (n
         pub shifted_ready : Ready m p h
         shifted_ready = subst (Ready m p) (sym made) (quartic_ready m p (get_or f 0 0) (get_or f 1 0) (get_or f 2 0) (get_or f 3 0) (get_or f 4 0) R5 n3 n4)
 
-        module _ (ys : Unsorted) (H : Holds (roots_of m p h) ys) where
-          ys_are : entries ys ≡ roots_of m p g5
-          ys_are = H.0 ∙ ap (roots_of m p) made
+        module _ (ys : List ℕ) (H : ys ≡ roots_of m p h) where
+          ys_are : ys ≡ roots_of m p g5
+          ys_are = H ∙ ap (roots_of m p) made
 
-          pub shifted_units : Fits ys × Units m (entries ys)
-          shifted_units = (H.1, subst (Units m) (sym ys_are) (quartic_units m p (get_or f 0 0) (get_or f 1 0) (get_or f 2 0) (get_or f 3 0) (get_or f 4 0) R5 n3 n4))
+          pub shifted_units : Units m ys
+          shifted_units = subst (Units m) (sym ys_are) (quartic_units m p (get_or f 0 0) (get_or f 1 0) (get_or f 2 0) (get_or f 3 0) (get_or f 4 0) R5 n3 n4)
 
-          module _ (os : Unsorted) (O : Holds (map (from_inverse m p s) (entries ys)) os) where
-            others_are : entries os ≡ map (from_inverse m p s5) (roots_of m p g5)
-            others_are = O.0 ∙ ap₂ (λ (w : ℕ) (l : List ℕ). map (from_inverse m p w) l) s_is ys_are
+          module _ (os : List ℕ) (O : os ≡ map (from_inverse m p s) ys) where
+            others_are : os ≡ map (from_inverse m p s5) (roots_of m p g5)
+            others_are = O ∙ ap₂ (λ (w : ℕ) (l : List ℕ). map (from_inverse m p w) l) s_is ys_are
 
             -- where s is no root
-            pub shifted_others : bit_xor (get_or f 0 0) v ≢ 0 → AreRoots m p f os
-            shifted_others z = (
-              subst (λ (l : List ℕ). HoldsRoots m p l (entries os)) (sym (five_entries f five))
-                  (subst (HoldsRoots m p f5) (sym others_are) (quartic_others m p (get_or f 0 0) (get_or f 1 0) (get_or f 2 0) (get_or f 3 0) (get_or f 4 0) R5 n3 n4 (λ w. z (at_s ∙ w)))),
-              O.1,
-            )
+            pub shifted_others : bit_xor (get_or f 0 0) v ≢ 0 → HoldsRoots m p f os
+            shifted_others z =
+                subst (λ (l : List ℕ). HoldsRoots m p l os) (sym (five_entries f five))
+                (subst (HoldsRoots m p f5) (sym others_are) (quartic_others m p (get_or f 0 0) (get_or f 1 0) (get_or f 2 0) (get_or f 3 0) (get_or f 4 0) R5 n3 n4 (λ w. z (at_s ∙ w))))
 
             -- where it is one there is a place for it
-            pub shifted_room : bit_xor (get_or f 0 0) v ≡ 0 → Fits os × (os.count < most_roots)
+            pub shifted_room : bit_xor (get_or f 0 0) v ≡ 0 → length os < most_roots
             shifted_room z =
                 let l = quartic_room m p (get_or f 0 0) (get_or f 1 0) (get_or f 2 0) (get_or f 3 0) (get_or f 4 0) R5 n3 n4 (sym at_s ∙ z) in
                 let e = ap length others_are in
-                let k = length-take-le os.count os.list (omega (arith, O.1.few, O.1.long)) in
-                (O.1, omega arith)
+                omega arith
 
-            pub shifted_roots : bit_xor (get_or f 0 0) v ≡ 0 → (r : Unsorted) → Holds (entries os ++ s ∷ []) r → AreRoots m p f r
-            shifted_roots z r W = (
-              subst (λ (l : List ℕ). HoldsRoots m p l (entries r)) (sym (five_entries f five))
-                  (subst (HoldsRoots m p f5) (sym (W.0 ∙ ap₂ (λ (l : List ℕ) (w : ℕ). l ++ w ∷ []) others_are s_is))
-                  (quartic_roots m p (get_or f 0 0) (get_or f 1 0) (get_or f 2 0) (get_or f 3 0) (get_or f 4 0) R5 n3 n4 (sym at_s ∙ z))),
-              W.1,
-            )
+            pub shifted_roots : bit_xor (get_or f 0 0) v ≡ 0 → (r : List ℕ) → r ≡ os ++ s ∷ [] → HoldsRoots m p f r
+            shifted_roots z r w =
+                subst (λ (l : List ℕ). HoldsRoots m p l r) (sym (five_entries f five))
+                (subst (HoldsRoots m p f5) (sym (w ∙ ap₂ (λ (l : List ℕ) (x : ℕ). l ++ x ∷ []) others_are s_is))
+                (quartic_roots m p (get_or f 0 0) (get_or f 1 0) (get_or f 2 0) (get_or f 3 0) (get_or f 4 0) R5 n3 n4 (sym at_s ∙ z)))

@@ -62,6 +62,9 @@ five_ready p cs e m d =
       nonzero = λ z. P.nonzero (zero_pad cs (most_coefficients - length cs) z);
     }
 
+pub padded_ready : (m p : ℕ) (cs f : List ℕ) → refusal (equation_tests p cs) ≡ 0 → m ≡ degree_of p → f ≡ padded most_coefficients cs → Ready m p f
+padded_ready m p cs f e d q = subst (Ready m p) (sym q) (five_ready p cs e m d)
+
 pub build_passed : (p : ℕ) (rs : List ℕ) → refusal (build_tests p rs) ≡ 0 → Accepted p × (length rs ≤ most_roots) × Coeffs (degree_of p) rs
 build_passed p rs e =
     let t = passes (build_tests p rs) tt e in

@@ -2,5 +2,5 @@ pub mod Limits
 pub mod Calls
 pub mod Answers
 pub mod Equation
-pub mod Unsorted
+pub mod ShortList
 pub mod Sorting

@@ -7,7 +7,7 @@ ghost use Rattle.field.specs.Answers.{of_field, field_of};
 ghost use Rattle.roots.specs.Limits.{most_coefficients, most_roots};
 ghost use Rattle.roots.specs.Calls.{build_tests};
 
-use crate::inner::polynomial::with_root;
+use crate::inner::polynomial::Polynomial;
 use crate::limits::{MOST_COEFFICIENTS, MOST_ROOTS};
 use arithmetic::inner::field::Field;
 use field::Refusal;
@@ -27,12 +27,10 @@ pub fn built(field: Field, roots: &[u32]) -> [u32; MOST_COEFFICIENTS]
     requires { (length roots.now ≤ most_roots) × Coeffs field.degree roots.now }
     ensures { result ≡ padded most_coefficients (build field.polynomial roots.now) }
 {
-    let mut f: [u32; MOST_COEFFICIENTS] = [1, 0, 0, 0, 0];
-    let mut i = roots.len();
-    while 0 < i {
-        i -= 1;
-        let next = with_root(field, f, roots.len() - i, roots[i]);
-        f = next;
+    let mut f = Polynomial::one(field);
+    // The place is the count of the roots before it, too.
+    for i in (0..roots.len()).rev() {
+        f = f.with_root(roots.len() - i, roots[i]);
     }
-    f
+    f.coefficients
 }

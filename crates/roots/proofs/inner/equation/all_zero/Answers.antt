@@ -1,29 +1,21 @@
--- `all_zero` meets its contract: it looks at each coefficient until one is not 0. Assumes nothing.
-use mathlib.Core.Path.{sym}
-use native.Mathlib.Omega.{arith}
-use borrow.Author.Count.{below_more}
-use borrow.Author.Tests.{eq-eqb, ne_eqb}
+-- `all_zero` meets its contract. Assumes nothing.
+use Rattle.std.proofs.Common.{◌≡◌, ◌≢◌, sym, arith, rules, Bool, true, false, ℕ, ◌<◌, List, length}
+use Rattle.std.specs.Prelude.{MatchBool}
+use Rattle.std.specs.List.{AllWithin, HoldsAt}
+use Rattle.std.proofs.lemmas.Iterator.{cases_from_all, YieldsList-from_slice}
+use borrow.Author.Tests.{tests, eq-eqb, ne_eqb}
 use Rattle.algebra.proofs.Search.{every_below_lem, not_every_below}
 use Rattle.roots.specs.Calls.{all_zero}
 use Rattle.roots.proofs.inner.equation.all_zero.Goals as goal
 
-pub loop-c-init : goal.loop-c-init
-loop-c-init c j l = absurd (omega arith)
-
-pub returns-then-c-ne0 : goal.returns-then-c-ne0
+decides : (cs : List ℕ) (r : Bool) → MatchBool r (AllWithin (λ x. x ≡ 0) cs 0 (length cs)) ((k : ℕ) × (k < length cs) × HoldsAt (λ x. x ≢ 0) cs k)
+    → r ≡ all_zero cs
 unfolding all_zero
-returns-then-c-ne0 c =
-    let l = c.loop-c in
-    sym (not_every_below _ _ l.c-index (omega arith) (ne_eqb _ _ c.if-c-ne0.true))
-
-pub loop-c-preserved : goal.loop-c-preserved
-loop-c-preserved c =
-    let l = c.loop-c in
-    below_more _ l.c-index l.invariant (eq-eqb _ _ c.if-c-ne0.false)
+decides cs true h = sym (every_below_lem _ (length cs) (λ j l. eq-eqb _ _ (h j 0 (omega arith) l)))
+decides cs false h = sym (not_every_below _ (length cs) h.0 h.1 (ne_eqb _ _ (h.2 0)))
 
 pub returns : goal.returns
-unfolding all_zero
 returns c =
-    let l = c.loop-c in
-    let w = l.invariant in
-    sym (every_below_lem _ _ (λ j h. w j (omega arith)))
+    decides _ _
+    (cases_from_all _ _ _ (λ x. x ≡ 0) (λ x. x ≢ 0) c.all.ensures.ran (YieldsList-from_slice c.args.coefficients.now cc)
+    (λ x q k. search (rules, tests)) (λ x q k. search (rules, tests)))

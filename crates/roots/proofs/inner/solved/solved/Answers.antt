@@ -1,36 +1,24 @@
 -- `solved` meets its contract. Assumes nothing.
-use mathlib.Core.Path.{sym, ap, ◌∙◌}
-use borrow.Author.Rules.{rules}
+use Rattle.std.proofs.Common.{◌≡◌, sym, ap, ◌∙◌, subst, ℕ, List}
+use Rattle.arithmetic.specs.declared.inner.field.Field.{Field}
 use Rattle.binary.proofs.Factor.{degree_is}
-use Rattle.roots.specs.Sorting.{found_of}
-use Rattle.roots.proofs.Tests.{equation_passed}
-use Rattle.roots.proofs.Multiples.{count_few}
+use Rattle.field.specs.Refusal.{refusal}
+use Rattle.roots.specs.Calls.{equation_tests, solve_answer}
+use Rattle.roots.specs.ShortList.{Placed}
 use Rattle.roots.proofs.Sorting.{sorted_roots}
-use Rattle.roots.proofs.Solving.{solve_ready, solve_answer_lem}
+use Rattle.roots.proofs.Solving.{solve_answer_lem}
 use Rattle.roots.proofs.inner.solved.solved.Goals as goal
 
-pub five-f-requires : goal.five-f-requires
-five-f-requires c = (equation_passed _ _ c.requires).few
-
-pub roots_of-requires : goal.roots_of-requires
-roots_of-requires c = solve_ready _ _ c.requires _ (sym (degree_is _ _ c.args.field.is_field.modulus.degree)) _ c.five-f.ensures
-
-pub ascending-found-requires : goal.ascending-found-requires
-ascending-found-requires c = c.roots_of.ensures.1
-
-pub multiplicities-multiplicities-requires : goal.multiplicities-multiplicities-requires
-multiplicities-multiplicities-requires c = (
-  solve_ready _ _ c.requires _ (sym (degree_is _ _ c.args.field.is_field.modulus.degree)) _ c.five-f.ensures,
-  c.ascending-found.ensures ∙ ap found_of (sorted_roots _ _ _ _ c.roots_of.ensures.0),
-)
-
-pub overflow_cast-result : goal.overflow_cast-result
-overflow_cast-result c =
-    let R = solve_ready _ _ c.requires _ (sym (degree_is _ _ c.args.field.is_field.modulus.degree)) _ c.five-f.ensures in
-    let few = count_few _ _ _ R (search rules) _ (c.ascending-found.ensures ∙ ap found_of (sorted_roots _ _ _ _ c.roots_of.ensures.0)) in
-    search rules
+pub multiplicities-counts-requires : goal.multiplicities-counts-requires
+multiplicities-counts-requires c =
+    subst (λ (xs : List ℕ). Placed xs c.sorted-found.result) (sorted_roots _ _ _ _ c.roots.ensures) c.sorted-found.ensures
 
 pub returns : goal.returns
 returns c =
-    solve_answer_lem _ _ c.requires _ (sym (degree_is _ _ c.args.field.is_field.modulus.degree)) _ c.five-f.ensures
-    _ (c.ascending-found.ensures ∙ ap found_of (sorted_roots _ _ _ _ c.roots_of.ensures.0)) _ c.multiplicities-multiplicities.ensures
+    let e = c.new-equation.ensures in
+    let cs = c.args.coefficients.now in
+    solve_answer_lem _ cs (subst (λ (f : Field). refusal (equation_tests f.polynomial cs) ≡ 0) (sym e.field) c.requires) _
+    (sym (degree_is _ _ c.new-equation.result.polynomial.field.is_field.modulus.degree)) _ e.coefficients _ _
+    (subst (λ (xs : List ℕ). Placed xs c.sorted-found.result) (sorted_roots _ _ _ _ c.roots.ensures) c.sorted-found.ensures)
+    c.multiplicities-counts.ensures
+    ∙ ap (λ (f : Field). solve_answer f.polynomial cs) e.field
