@@ -1,4 +1,4 @@
--- The calls' answers where the tests have passed and handed a field on. Assumes nothing.
+-- The answer of `build` where the tests have passed and handed a field on. Assumes nothing.
 use Rattle.std.proofs.Common.{◌≡◌, sym, ap, ◌∙◌, subst, ℕ, ◌≤◌, List, length}
 use Rattle.arithmetic.specs.declared.inner.field.Field.{Field}
 use Rattle.galois.specs.Polynomial.{Coeffs, build}
@@ -10,16 +10,6 @@ use Rattle.field.proofs.Answered.{field_given}
 use Rattle.roots.specs.Limits.{most_coefficients, most_roots}
 use Rattle.roots.specs.Calls.{equation_tests, build_tests, refused_built, solve_answer, build_answer}
 use Rattle.roots.proofs.Tests.{build_passed}
-
-module _ (p : ℕ) (cs : List ℕ) (f : Field) (e : gives (f.polynomial, f.degree) ≡ outcome (equation_tests p cs) (field_of p)) where
-  same : f.polynomial ≡ p
-  same = (field_given p f (equation_tests p cs) e).polynomial
-
-  pub equation_given : refusal (equation_tests f.polynomial cs) ≡ 0
-  equation_given = ap (λ (q : ℕ). refusal (equation_tests q cs)) same ∙ (field_given p f (equation_tests p cs) e).passed
-
-  pub same_equation : solve_answer f.polynomial cs ≡ solve_answer p cs
-  same_equation = ap (λ (q : ℕ). solve_answer q cs) same
 
 module _ (p : ℕ) (rs : List ℕ) (f : Field) (e : gives (f.polynomial, f.degree) ≡ outcome (build_tests p rs) (field_of p)) where
   passed : refusal (build_tests p rs) ≡ 0

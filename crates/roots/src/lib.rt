@@ -28,7 +28,7 @@ pub fn solve(p: u32, coefficients: &[u32]) -> RootsAnswer
     ensures { of_roots result ≡ solve_answer p coefficients.now }
 {
     match equation::tested(p, coefficients) {
-        Ok(field) => solved(field, coefficients),
+        Ok(_) => solved(p, coefficients),
         Err(refusal) => RootsAnswer {
             count: Err(refusal),
             roots: [0; MOST_ROOTS],

@@ -12,7 +12,6 @@ ghost use Rattle.roots.specs.Calls.{equation_tests, solve_answer};
 ghost use Rattle.unguarded.specs.Count.{count_of};
 
 use arithmetic::inner::field::Field;
-use binary::inner::digit::degree;
 use binary::inner::modulo::Modulus;
 use field::Refusal;
 use firmware::inner::lent::put_all;
@@ -75,11 +74,7 @@ pub extern "C" fn unguarded_solve(
     ensures roots_after { roots.new ≡ (solve_answer p coefficients.now).roots }
     ensures multiplicities_after { multiplicities.new ≡ (solve_answer p coefficients.now).multiplicities }
 {
-    let field = Field {
-        polynomial: p,
-        degree: degree(p),
-    };
-    let answer = solved(field, coefficients);
+    let answer = solved(p, coefficients);
     let found = answer.roots;
     let often = answer.multiplicities;
     put_all(&found, roots);

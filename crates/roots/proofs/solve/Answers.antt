@@ -1,10 +1,8 @@
 -- `solve` meets its contract. Assumes nothing.
-use Rattle.std.proofs.Common.{◌∙◌}
-use Rattle.roots.proofs.Answered.{equation_given, same_equation}
+use Rattle.field.specs.Answers.{field_of}
+use Rattle.field.proofs.Answered.{gives_passes}
+use Rattle.roots.specs.Calls.{equation_tests}
 use Rattle.roots.proofs.solve.Goals as goal
 
 pub solved-requires : goal.solved-requires
-solved-requires c = equation_given _ _ c.in-Ok.field c.in-Ok.ensures
-
-pub returns-in-Ok : goal.returns-in-Ok
-returns-in-Ok c = c.solved.ensures ∙ same_equation _ _ c.in-Ok.field c.in-Ok.ensures
+solved-requires c = (gives_passes (equation_tests c.args.p c.args.coefficients.now) _ (field_of c.args.p) c.in-Ok.ensures).0

@@ -7,11 +7,17 @@ ghost use Rattle.roots.specs.Calls.{equation_tests, solve_answer};
 use crate::RootsAnswer;
 use crate::inner::equation::Equation;
 use arithmetic::inner::field::Field;
+use binary::inner::digit::degree;
 
-pub fn solved(field: Field, coefficients: &[u32]) -> RootsAnswer
-    requires { refusal (equation_tests field.polynomial coefficients.now) ≡ 0 }
-    ensures { of_roots result ≡ solve_answer field.polynomial coefficients.now }
+// Asks for no more than the tests' passing, so that the benchmark can call it as a solve does.
+pub fn solved(p: u32, coefficients: &[u32]) -> RootsAnswer
+    requires { refusal (equation_tests p coefficients.now) ≡ 0 }
+    ensures { of_roots result ≡ solve_answer p coefficients.now }
 {
+    let field = Field {
+        polynomial: p,
+        degree: degree(p),
+    };
     let equation = Equation::new(field, coefficients);
     let found = equation.roots().sorted();
     let counts = equation.multiplicities(found);

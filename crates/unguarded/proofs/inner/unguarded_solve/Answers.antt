@@ -1,4 +1,4 @@
--- `unguarded_solve` meets its contract: its polynomial was accepted, and both lists are just long enough. Assumes nothing.
+-- `unguarded_solve` meets its contract: both lists are just long enough. Assumes nothing.
 use Rattle.std.proofs.Common.{◌≡◌, ap, ◌∙◌, arith, rules, ℕ, List, ◌++◌, length, drop, subst, pow_pos}
 use mathlib.Core.List.{append-nil}
 use lib.ListN.{drop_of_length-le}
@@ -14,17 +14,6 @@ use Rattle.unguarded.proofs.inner.unguarded_solve.Goals as goal
 -- values that fill a list
 all : (values list : List ℕ) → length values ≡ length list → values ++ drop (length values) list ≡ values
 all values list e = ap (λ (l : List ℕ). values ++ l) (drop_of_length-le list {i = length values} (omega (arith, e))) ∙ append-nil values
-
-pub degree-requires : goal.degree-requires
-degree-requires c =
-    let A = (equation_passed c.args.p c.args.coefficients.now c.requires.coefficients_value).accepted in
-    let w = pow_pos (degree_of c.args.p) in
-    omega (arith, A.ready.modulus.degree.0)
-
-pub invariant_of-field : goal.invariant_of-field
-invariant_of-field c =
-    let A = (equation_passed c.args.p c.args.coefficients.now c.requires.coefficients_value).accepted in
-    record { is_field = subst (λ (m : ℕ). FieldModulus m c.args.p) (degree_is _ _ c.degree.ensures) A.ready }
 
 pub put_all-requires : goal.put_all-requires
 put_all-requires c =
