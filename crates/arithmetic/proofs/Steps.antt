@@ -1,12 +1,6 @@
 -- Euclid's algorithm on a field polynomial p and an element a, one digit a step. Assumes nothing.
-use mathlib.Core.Path.{◌≡◌, sym, ap, ap₂, ◌∙◌}
-use mathlib.Core.Logic.{◌≢◌}
-use Prim.Native.Nat.{ℕ, suc, ◌+◌, ◌-◌, ◌*◌, ◌%◌, ◌^◌, ◌≤◌, ◌<◌}
-use native.Mathlib.Nat.{zero-mul}
-use native.Mathlib.Decide.{ℕ_discrete}
-use native.Mathlib.Omega.{arith}
-use lib.Bits.{bit_xor}
-use lib.Pow.{pow_pos, pow_mono, shl_exact}
+use Rattle.std.proofs.Common.{◌≡◌, sym, ap, ap₂, ◌∙◌, ◌≢◌, ℕ, suc, ◌+◌, ◌-◌, ◌*◌, ◌%◌, ◌^◌, ◌≤◌, ◌<◌, zero-mul, arith, bit_xor, pow_pos, pow_mono, shl_exact}
+use Rattle.std.proofs.Math.Decide.{ℕ_discrete}
 use Rattle.binary.specs.Xor.{◌⊕◌, Degree}
 use Rattle.binary.proofs.Xor.{is_xor, has_degree, exp_lt, xor-zero, xor_comm, xor_twice, ac, xor_lt}
 use Rattle.binary.specs.Times.{times}

@@ -1,8 +1,8 @@
 -- Division of p by d with both moved up to the top of a word of 32 digits: after each turn the rest stands one place higher.
 -- Assumes nothing.
 use Rattle.std.proofs.Common.{◌≡◌, ℕ, suc, ◌+◌, ◌-◌, ◌*◌, ◌/◌, ◌%◌, ◌^◌, ◌<◌, ◌≤◌, eqb, sym, refl, ap, ◌∙◌, ap₂, mul_assoc, lt_of_mul-lt-mul_right, one-mul, zero-mul, le_of_mul-le-mul_right, mul-div_cancel, arith, pow_pos, pow-add, shl_lt, shl_exact, eq-eqb, eqb-true}
-use native.Mathlib.Nat.{zero-div}
-use native.Mathlib.Decide.{dec_lt}
+use Rattle.std.proofs.Math.Nat.{zero-div}
+use Rattle.std.proofs.Math.Decide.{dec_lt}
 use Rattle.algebra.proofs.Search.{same_test}
 use Rattle.binary.specs.Xor.{◌⊕◌, Degree}
 use Rattle.binary.proofs.Xor.{xor-zero, exp_lt}

@@ -1,19 +1,14 @@
--- A block of divisors: its lists, entry by entry (`entries_at`, `entries_filled`); its divisions side by side, a turn of
--- all at a time (`beside_start`, `beside_turn`, `beside_end`); and that n, .., n + 7 are below a power of 2 where n, a multiple of 8, is
--- (`block-below`). Assumes nothing.
-use Rattle.std.proofs.Common.{◌≡◌, ℕ, suc, ◌+◌, ◌-◌, ◌*◌, ◌%◌, ◌^◌, ◌<◌, ◌≤◌, eqb, List, get_or, replicate, ap, ◌∙◌, zero-add, arith, pow-add}
-use lib.ListN.{get_or-replicate}
+-- A block of divisors: its divisions side by side, a turn of all at a time (`beside_start`, `beside_turn`, `beside_end`); that n, .., n + 7
+-- are below a power of 2 where n, a multiple of 8, is (`block-below`), and so of one degree (`alike`). Assumes nothing.
+use Rattle.std.proofs.Common.{◌≡◌, ℕ, suc, ◌+◌, ◌-◌, ◌*◌, ◌%◌, ◌^◌, ◌<◌, ◌≤◌, eqb, List, get_or, replicate, ap, ◌∙◌, arith, pow-add}
+use Rattle.std.proofs.Math.ListN.{get_or-replicate}
 use Rattle.algebra.specs.Search.{some_below}
-use Rattle.algebra.proofs.CountUp.{map-count_up}
 use Rattle.algebra.proofs.Search.{some_same}
 use Rattle.binary.specs.Xor.{Degree}
 use Rattle.binary.specs.Remainder.{divides}
-use Rattle.binary.specs.Block.{block, raise, turn, entries, IsBlock}
+use Rattle.binary.specs.Block.{block, raise, turn, IsBlock}
 use Rattle.binary.proofs.Xor.{exp_lt}
 use Rattle.binary.proofs.Aligned.{Aligned, aligned_start, aligned_turn, aligned_zero}
-
-pub entries_at : (f : ℕ → ℕ) (i : ℕ) → i < block → get_or (entries f) i 0 ≡ f i
-entries_at f i l = map-count_up f 0 block i 0 l ∙ ap f (zero-add i)
 
 -- the divisions of p by the raised divisors of degree k: each rest is a value with p's remainder, s places up
 abbrev pub Beside : ℕ → ℕ → List ℕ → List ℕ → ℕ → Type 0
@@ -22,10 +17,9 @@ Beside k p raised rests s = (i d : ℕ) → i < block → Degree k d → get_or 
 pub beside_start : (m k p : ℕ) (raised : List ℕ) → Degree m p → m ≤ 31 → Beside k p raised (replicate block ((p * 2 ^ (31 - m)) % 2 ^ 32)) (31 - m)
 beside_start m k p raised dp l i d h dd e = rw (get_or-replicate block i ((p * 2 ^ (31 - m)) % 2 ^ 32) 0 h) (aligned_start m p d dp l)
 
-pub beside_turn : (k p : ℕ) (raised rests next : List ℕ) (s : ℕ) → s + k ≤ 31 → next ≡ entries (λ i. turn (get_or raised i 0) (get_or rests i 0))
+pub beside_turn : (k p : ℕ) (raised rests next : List ℕ) (s : ℕ) → s + k ≤ 31 → ((i : ℕ) → i < block → get_or next i 0 ≡ turn (get_or raised i 0) (get_or rests i 0))
     → Beside k p raised rests s → Beside k p raised next (s + 1)
-beside_turn k p raised rests next s l q b i d h dd e =
-    rw (q, entries_at (λ i. turn (get_or raised i 0) (get_or rests i 0)) i h, e) (aligned_turn k p d (get_or rests i 0) s dd l (b i d h dd e))
+beside_turn k p raised rests next s l q b i d h dd e = rw (q i h, e) (aligned_turn k p d (get_or rests i 0) s dd l (b i d h dd e))
 
 -- at the end a rest is 0 where its divisor divides
 pub beside_end : (k p : ℕ) (divisor : ℕ → ℕ) (raised rests : List ℕ) (s : ℕ) → k ≤ 32 → s ≡ 32 - k → ((i : ℕ) → i < block → Degree k (divisor i))

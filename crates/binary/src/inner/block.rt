@@ -1,8 +1,8 @@
 // Division by eight divisors at once.
-ghost use Rattle.std.specs.Prelude.{◌≡◌, ◌<◌, ◌≤◌, ◌^◌, ◌+◌, map, nat_eq, slice_index};
+ghost use Rattle.std.specs.Prelude.{◌≡◌, ℕ, ◌<◌, ◌≤◌, ◌^◌, ◌+◌, nat_eq, slice_index};
 ghost use Rattle.algebra.specs.Search.{some_below};
 ghost use Rattle.binary.specs.Remainder.{divides};
-ghost use Rattle.binary.specs.Block.{block, raise, turn, entries, IsBlock};
+ghost use Rattle.binary.specs.Block.{block, raise, turn, IsBlock};
 
 use crate::inner::digit::degree;
 use crate::inner::division::turned;
@@ -43,14 +43,14 @@ impl Block {
 // Divisors of degree k, moved to the top of the word.
 fn raised(divisors: [u32; BLOCK], k: u32) -> [u32; BLOCK]
     requires { k < 32 }
-    ensures { result ≡ map (raise k) divisors }
+    ensures { (i : ℕ) → i < block → slice_index result i ≡ raise k (slice_index divisors i) }
 {
     divisors.map(|d| d << (31 - k))
 }
 
 // One turn of every division.
 fn turned_each(rests: [u32; BLOCK], divisors: [u32; BLOCK]) -> [u32; BLOCK]
-    ensures { result ≡ entries (λ i. turn (slice_index divisors i) (slice_index rests i)) }
+    ensures { (i : ℕ) → i < block → slice_index result i ≡ turn (slice_index divisors i) (slice_index rests i) }
 {
     std::array::from_fn(|i| turned(rests[i], divisors[i]))
 }

@@ -1,6 +1,6 @@
 -- `picked` meets its contract: the mask is 0 or all ones. Assumes nothing.
-use Rattle.std.proofs.Common.{◌≡◌, ℕ, ◌+◌, ◌-◌, ◌*◌, ◌%◌, ◌^◌, ◌<◌, ◌∙◌, mod-eq_of_lt, one-mul, zero-mul, arith}
-use lib.Bits.{bit_and, and_zero_r, and_mask}
+use Rattle.std.proofs.Common.{◌≡◌, ℕ, ◌+◌, ◌-◌, ◌*◌, ◌%◌, ◌^◌, ◌<◌, ◌∙◌, mod-eq_of_lt, one-mul, zero-mul, arith, bit_and}
+use lib.Bits.{and_zero_r, and_mask}
 use Rattle.binary.proofs.Xor.{by_digit}
 use Rattle.binary.proofs.inner.digit.picked.Goals as goal
 

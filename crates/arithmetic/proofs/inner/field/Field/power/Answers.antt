@@ -1,6 +1,5 @@
 -- `power` meets its contract. Assumes nothing.
-use Rattle.std.proofs.Common.{◌∙◌}
-use mir.Facts.{to_z-of_z}
+use Rattle.std.proofs.Common.{◌∙◌, to_z-of_z}
 use Rattle.arithmetic.proofs.Power.{power_plain, power_inverse}
 use Rattle.arithmetic.proofs.inner.field.Field.power.Goals as goal
 use Rattle.arithmetic.proofs.inner.field.Field.power.Goals.{then-e-lt0, else-e-lt0}

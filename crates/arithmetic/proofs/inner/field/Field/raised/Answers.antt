@@ -1,7 +1,5 @@
 -- `raised` meets its contract. Assumes nothing.
-use mathlib.Core.Path.{◌≡◌, sym, ap, ap₂, ◌∙◌}
-use Prim.Native.Nat.{ℕ, ◌/◌, ◌%◌, ◌<◌, ◌^◌}
-use native.Mathlib.Omega.{arith}
+use Rattle.std.proofs.Common.{◌≡◌, sym, ap, ap₂, ◌∙◌, ℕ, ◌/◌, ◌%◌, ◌<◌, ◌^◌, arith}
 use Rattle.binary.specs.Product.{product}
 use Rattle.binary.proofs.Product.{product_lt, product_one, one_product, product_assoc}
 use Rattle.galois.specs.Field.{Field}

@@ -1,6 +1,5 @@
 -- `trace` meets its contract. Assumes nothing.
-use mathlib.Core.Path.{◌≡◌}
-use Prim.Native.Nat.{ℕ, ◌≤◌, ◌<◌, ◌^◌}
+use Rattle.std.proofs.Common.{◌≡◌, ℕ, ◌≤◌, ◌<◌, ◌^◌}
 use Rattle.galois.specs.Power.{squares}
 use Rattle.galois.specs.Trace.{part_trace}
 use Rattle.arithmetic.proofs.inner.field.Field.trace.Given as goal

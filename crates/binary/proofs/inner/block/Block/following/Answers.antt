@@ -10,8 +10,3 @@ map-requires c =
     let long : length c.args.self.divisors ≡ block = search rules in
     let fits : (i : ℕ) → i < length c.args.self.divisors → get_or c.args.self.divisors i 0 + 8 < 2 ^ 32 = λ i l. let e = b.are i (omega (arith, l)) in omega (arith, e, l) in
     (search rules, (search rules, (search rules, called_at_each (λ i q l. let w = fits i l in search rules))))
-
-pub invariant_of-result : goal.invariant_of-result
-invariant_of-result c =
-    let b = c.args.self.is_block in
-    record { is_block = record { low = omega (arith, b.low); whole = omega (arith, b.whole); are = λ i l. let e : get_or c.map.result i 0 ≡ get_or c.args.self.divisors i 0 + 8 = search rules in omega (arith, e, b.are i l) } }

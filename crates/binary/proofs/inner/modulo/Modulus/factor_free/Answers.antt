@@ -1,7 +1,7 @@
 -- `factor_free` meets its contract: no divisor tried so far divides p. Assumes nothing.
 use Rattle.std.proofs.Common.{◌≡◌, ℕ, suc, ◌+◌, ◌-◌, ◌/◌, ◌^◌, ◌<◌, ◌≤◌, min, true, false, ◌≢◌, List, sym, ap, ◌∙◌, add-one, arith, pow_mono, eqb-true}
-use native.Mathlib.Decide.{dec_lt}
-use borrow.Author.Tests.{eqb-false}
+use Rattle.std.proofs.Math.Decide.{dec_lt}
+use Rattle.std.proofs.lemmas.Bool.{eqb-false}
 use Rattle.algebra.specs.Search.{some_below}
 use Rattle.algebra.proofs.Search.{some_yes, some_not}
 use Rattle.binary.specs.Remainder.{remainder, divides}
@@ -74,12 +74,6 @@ module _ {m p limit first : ℕ} (t : Tried m p limit first) where
             eqb-false (remainder p j) 0
             (ap (λ (x : ℕ). divides x p) (sym q) ∙ some_not (λ i. divides (first + i) p) block s (j - first) (omega arith))
 
-pub overflow_add-self : goal.overflow_add-self
-overflow_add-self c = omega (arith, c.args.self.is_modulus.fits)
-
-pub power_of_two-limit-requires : goal.power_of_two-limit-requires
-power_of_two-limit-requires c = omega (arith, c.args.self.is_modulus.fits)
-
 pub few_divide-requires : goal.few_divide-requires
 few_divide-requires c = (limit-le c.args.self.is_modulus c.power_of_two-limit.ensures).0
 
@@ -99,12 +93,6 @@ pub returns-then-some_divides : goal.returns-then-some_divides
 returns-then-some_divides c =
     let l = c.loop-candidates in
     divisor l.invariant l.candidates.is_block (omega arith) (sym c.some_divides.ensures ∙ c.if-some_divides.true)
-
-pub following-candidates-requires : goal.following-candidates-requires
-following-candidates-requires c = let w = limit-le c.args.self.is_modulus c.power_of_two-limit.ensures in omega arith
-
-pub loop-candidates-smaller : goal.loop-candidates-smaller
-loop-candidates-smaller c = omega arith
 
 pub loop-candidates-preserved : goal.loop-candidates-preserved
 loop-candidates-preserved c =

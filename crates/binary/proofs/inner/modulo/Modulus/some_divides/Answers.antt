@@ -1,7 +1,6 @@
 -- `some_divides` meets its contract: each of the divisions goes on as `remainder` does. Assumes nothing.
-use Rattle.std.proofs.Common.{◌≡◌, ℕ, ◌+◌, ◌≤◌, List, length, get_or, ap, ◌∙◌, arith, rules}
-use Rattle.std.proofs.lemmas.List.{get_or-map}
-use Rattle.binary.specs.Block.{block, raise}
+use Rattle.std.proofs.Common.{◌+◌, ◌≤◌, ap, ◌∙◌, arith}
+use Rattle.binary.specs.Block.{raise}
 use Rattle.binary.proofs.Aligned.{divisor_degree}
 use Rattle.binary.proofs.Block.{beside_start, beside_turn, beside_end, alike}
 use Rattle.binary.proofs.inner.modulo.Modulus.some_divides.Goals as goal
@@ -10,9 +9,6 @@ use Rattle.binary.proofs.inner.modulo.Modulus.some_divides.Goals.{After-degree-k
 -- the divisors' degree is 1 at least and the polynomial's at most
 degrees : (c : After-degree-k) → (1 ≤ c.degree-k.result) × (c.degree-k.result ≤ c.args.self.degree) × (c.args.self.degree ≤ 30)
 degrees c = divisor_degree c.args.self.is_modulus (omega (arith, c.args.candidates.is_block.low)) c.requires c.degree-k.ensures
-
-pub degree-k-requires : goal.degree-k-requires
-degree-k-requires c = omega (arith, c.args.candidates.is_block.low)
 
 pub raised-raised-requires : goal.raised-raised-requires
 raised-raised-requires c = omega (arith, degrees (goal.at.raised-raised-requires c).After-degree-k)
@@ -41,9 +37,8 @@ returns c =
     let k = c.degree-k.result in
     let l = c.loop in
     let w = degrees (goal.at.returns c).After-degree-k in
-    let long : length B.divisors ≡ block = search rules in
     c.has_zero.ensures
     ∙ beside_end k c.args.self.polynomial (λ i. B.first + i) c.raised-raised.result l.rests l.counter (omega arith) (omega (arith, l.invariant.0))
     (alike k B.is_block c.degree-k.ensures)
-    (λ i h. ap (λ (x : List ℕ). get_or x i 0) c.raised-raised.ensures ∙ get_or-map (raise k) B.divisors i 0 0 (omega (arith, h)) ∙ ap (raise k) (B.is_block.are i h))
+    (λ i h. c.raised-raised.ensures i h ∙ ap (raise k) (B.is_block.are i h))
     l.invariant.1
