@@ -1,16 +1,9 @@
 -- Every second digit of a number: few (`even_lt`); a number is the square of its even digits and x times the square of its odd ones, as
 -- polynomials (`squares_of_halves`); masks and shifts find them (`gathered_is`), for both ways are additive and agree at the powers of
 -- two. Assumes nothing.
-use mathlib.Core.Path.{◌≡◌, refl, sym, ap, ap₂, ◌∙◌}
-use mathlib.Core.Bool.{true}
-use Prim.Native.Nat.{ℕ, zero, suc, ◌+◌, ◌*◌, ◌/◌, ◌%◌, ◌^◌, ◌<◌}
-use native.Mathlib.Nat.{mod-lt, zero-mul, one-mul}
-use native.Mathlib.Omega.{arith}
-use lib.Arith.{bin_ind}
-use lib.Bits.{bit_and, bit_xor, and_shr, and_mod}
-use lib.Dec.{eqb}
-use lib.Pow.{pow_pos}
-use borrow.Author.Tests.{eqb-true}
+use Rattle.std.proofs.Common.{◌≡◌, refl, sym, ap, ap₂, ◌∙◌, true, ℕ, zero, suc, ◌+◌, ◌*◌, ◌/◌, ◌%◌, ◌^◌, ◌<◌, mod-lt, zero-mul, one-mul, arith, bit_and, bit_xor, eqb, pow_pos, eqb-true}
+use Rattle.std.proofs.Math.Arith.{bin_ind}
+use lib.Bits.{and_shr, and_mod}
 use Rattle.algebra.specs.Search.{every_below}
 use Rattle.algebra.proofs.Search.{every_at}
 use Rattle.binary.specs.Xor.{◌⊕◌}

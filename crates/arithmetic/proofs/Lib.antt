@@ -3,5 +3,4 @@ pub mod Power
 pub mod EvenDigits
 pub mod Root
 pub mod Number
-pub mod Choice
 pub mod Steps

@@ -1,13 +1,8 @@
 -- The power to an integer: what the code computes (`power-digit`, `power_plain`, `power_inverse`), and the law of sums over all integers,
 -- `power-sum`. Assumes nothing.
-use mathlib.Core.Path.{◌≡◌, refl, sym, ap, ap₂, ◌∙◌, subst}
-use mathlib.Core.Bool.{true, false}
-use Prim.Native.Nat.{ℕ, zero, suc, ◌+◌, ◌*◌, ◌/◌, ◌%◌, ◌^◌, ◌<◌}
-use native.Mathlib.Omega.{arith}
-use lib.Dec.{T}
-use lib.IntN.{ℤ, pos, negsuc, nat_abs, suc_ℤ, pred_ℤ, neg_ℤ, ◌+ℤ◌, suc-pred, suc_ℤ-+ℤ, pred_ℤ-+ℤ, +ℤ_idl, +ℤ_one, -ℤ_one, ℤ_ind}
-use lib.Signed.{lt_z}
-use borrow.Author.Tests.{ltb-true}
+use Rattle.std.proofs.Common.{◌≡◌, refl, sym, ap, ap₂, ◌∙◌, subst, true, false, ℕ, zero, suc, ◌+◌, ◌*◌, ◌/◌, ◌%◌, ◌^◌, ◌<◌, arith, T, ℤ, pos, negsuc, nat_abs, neg_ℤ, ◌+ℤ◌, ltb-true}
+use lib.IntN.{suc_ℤ, pred_ℤ, suc-pred, suc_ℤ-+ℤ, pred_ℤ-+ℤ, +ℤ_idl, +ℤ_one, -ℤ_one, ℤ_ind}
+use Rattle.std.specs.Int.Signed.{lt_z}
 use Rattle.binary.specs.Product.{product}
 use Rattle.binary.proofs.Product.{product_comm, product_assoc, product_one, one_product, product_lt}
 use Rattle.binary.proofs.Inverse.{product_cancel}

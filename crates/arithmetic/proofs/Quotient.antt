@@ -1,10 +1,6 @@
 -- The quotient: `quotient_is` that no other q has q·b = a, `quotient_by` that it is the product with the inverse, `quotient-product`
 -- that it is right, `quotient_lt` that it is an element. Assumes nothing.
-use mathlib.Core.Path.{subst, ◌≡◌, sym, ap, ◌∙◌}
-use Prim.Native.Nat.{ℕ, ◌^◌, ◌<◌}
-use native.Mathlib.Omega.{arith}
-use lib.Dec.{eqb}
-use borrow.Author.Tests.{eq-eqb, ne_eqb}
+use Rattle.std.proofs.Common.{subst, ◌≡◌, sym, ap, ◌∙◌, ℕ, ◌^◌, ◌<◌, arith, eqb, eq-eqb, ne_eqb}
 use Rattle.binary.specs.Product.{product}
 use Rattle.binary.proofs.Product.{product_comm, product_one, product_assoc, product_lt}
 use Rattle.binary.proofs.Inverse.{product_cancel, inverse}

@@ -1,11 +1,7 @@
 -- The square root by even and odd digits. A number a is E² + x·O² modulo p (`halves_modulo`); p itself is 0 there, so that x is the
 -- square of E / O of p (`root_of_x`), and b that of E + O times the root of x (`root_by_halves`). Assumes nothing.
-use mathlib.Core.Path.{◌≡◌, sym, ap, ap₂, ◌∙◌}
-use Prim.Native.Nat.{ℕ, suc, ◌+◌, ◌-◌, ◌*◌, ◌/◌, ◌^◌, ◌≤◌, ◌<◌}
-use native.Mathlib.Nat.{zero-mul}
-use native.Mathlib.Decide.{ℕ_discrete}
-use native.Mathlib.Omega.{arith}
-use lib.Pow.{pow_pos, pow_mono}
+use Rattle.std.proofs.Common.{◌≡◌, sym, ap, ap₂, ◌∙◌, ℕ, suc, ◌+◌, ◌-◌, ◌*◌, ◌/◌, ◌^◌, ◌≤◌, ◌<◌, zero-mul, arith, pow_pos, pow_mono}
+use Rattle.std.proofs.Math.Decide.{ℕ_discrete}
 use Rattle.binary.specs.Xor.{◌⊕◌}
 use Rattle.binary.proofs.Xor.{xor-zero, xor_lt, equal_of_xor}
 use Rattle.binary.specs.Times.{times}

@@ -1,12 +1,6 @@
 -- Euclid's algorithm on a field polynomial p and an element a, one digit a step. Assumes nothing.
-use mathlib.Core.Path.{◌≡◌, sym, ap, ap₂, ◌∙◌, subst}
-use mathlib.Core.Logic.{◌≢◌}
-use Prim.Native.Nat.{ℕ, suc, ◌+◌, ◌-◌, ◌*◌, ◌%◌, ◌^◌, ◌≤◌, ◌<◌}
-use native.Mathlib.Nat.{zero-mul}
-use native.Mathlib.Decide.{ℕ_discrete, dec_lt}
-use native.Mathlib.Omega.{arith}
-use lib.Bits.{bit_xor}
-use lib.Pow.{pow_pos, pow_mono, shl_exact}
+use Rattle.std.proofs.Common.{◌≡◌, sym, ap, ap₂, ◌∙◌, ◌≢◌, ℕ, suc, ◌+◌, ◌-◌, ◌*◌, ◌%◌, ◌^◌, ◌≤◌, ◌<◌, zero-mul, arith, bit_xor, pow_pos, pow_mono, shl_exact}
+use Rattle.std.proofs.Math.Decide.{ℕ_discrete}
 use Rattle.binary.specs.Xor.{◌⊕◌, Degree}
 use Rattle.binary.proofs.Xor.{is_xor, has_degree, exp_lt, xor-zero, xor_comm, xor_twice, ac, xor_lt}
 use Rattle.binary.specs.Times.{times}
@@ -20,8 +14,6 @@ use Rattle.galois.specs.Field.{Field}
 use Rattle.galois.proofs.Field.{one_lt}
 use Rattle.galois.proofs.Power.{zero-product}
 use Rattle.binary.proofs.Shift.{shift_is, shift_exact, degree_le, lowered_lt}
-use Rattle.arithmetic.specs.Choice.{chosen_of, less_digit}
-use Rattle.arithmetic.proofs.Choice.{less_one, less_zero}
 
 -- u and v with their multipliers
 pub record Pair (m p a u v g h : ℕ) : Type 0 where
@@ -51,19 +43,13 @@ swapped : {m p a u v g h : ℕ} → Pair m p a u v g h → Pair m p a v u h g
 swapped {m} {p} {a} {u} {v} {g} {h} P =
     record { left = P.right; right = P.left; whole = xor_comm (times h u) (times g v) ∙ P.whole; bound_g = P.bound_h; bound_h = P.bound_g }
 
-pub order : (m p a u v g h d : ℕ) → Head m p a u v g h → u ≢ 1 → d ≡ less_digit u v → Ordered m p a (chosen_of d u v) (chosen_of d v u) (chosen_of d g h) (chosen_of d h g)
-order m p a u v g h d H n e = go (dec_lt u v)
-  where
-    O : ℕ → Type 0
-    O d = Ordered m p a (chosen_of d u v) (chosen_of d v u) (chosen_of d g h) (chosen_of d h g)
+-- the larger one first, with its multiplier
+module _ {m p a u v g h : ℕ} (H : Head m p a u v g h) where
+  pub order_swapped : u < v → u ≢ 1 → Ordered m p a v u h g
+  order_swapped l n = record { pair = swapped H.pair; two = omega (arith, H.pos, n); small = H.small; le = omega arith; most = H.most }
 
-    go : Dec (u < v) → Ordered m p a (chosen_of d u v) (chosen_of d v u) (chosen_of d g h) (chosen_of d h g)
-    go (yes l) =
-        subst (λ (d : ℕ). Ordered m p a (chosen_of d u v) (chosen_of d v u) (chosen_of d g h) (chosen_of d h g)) (sym (e ∙ less_one u v l))
-        (record { pair = swapped H.pair; two = omega (arith, H.pos, n); small = H.small; le = omega arith; most = H.most })
-    go (no l) =
-        subst (λ (d : ℕ). Ordered m p a (chosen_of d u v) (chosen_of d v u) (chosen_of d g h) (chosen_of d h g)) (sym (e ∙ less_zero u v (omega arith)))
-        (record { pair = H.pair; two = H.two; small = omega (arith, H.small); le = omega arith; most = omega (arith, H.small) })
+  pub order_kept : v ≤ u → Ordered m p a u v g h
+  order_kept l = record { pair = H.pair; two = H.two; small = omega (arith, H.small); le = l; most = omega (arith, H.small) }
 
 module _ (m p a : ℕ) (F : Field m p) where
   self_mod : remainder p p ≡ 0

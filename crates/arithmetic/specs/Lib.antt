@@ -1,5 +1,4 @@
 pub mod Modulus
-pub mod Choice
 pub mod Quotient
 pub mod Power
 pub mod EvenDigits

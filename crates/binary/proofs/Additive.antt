@@ -1,6 +1,6 @@
 -- Functions that take sums to sums (`Additive`): two that agree at the powers of two are equal (`additive_same`). Assumes nothing.
 use Rattle.std.proofs.Common.{◌≡◌, ℕ, zero, suc, ◌^◌, ◌<◌, sym, ap, ◌∙◌, ap₂, arith}
-use native.Mathlib.Decide.{dec_lt}
+use Rattle.std.proofs.Math.Decide.{dec_lt}
 use Rattle.binary.specs.Xor.{◌⊕◌}
 use Rattle.binary.proofs.Xor.{zero_xor, xor_self, xor_twice, same-top}
 use Rattle.binary.proofs.Bit.{degree_pow}

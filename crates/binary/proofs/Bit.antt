@@ -1,10 +1,10 @@
 -- The digits of a number (`bit`): of sums, of powers of two, of numbers with a given top; numbers below 2 ^ m with equal digits are equal
 -- (`same_bits`); the order of two numbers by the top bit of their sum (`lt_xor`). Assumes nothing.
-use Rattle.std.proofs.Common.{◌≡◌, ℕ, zero, suc, ◌+◌, ◌*◌, ◌/◌, ◌%◌, ◌^◌, ◌<◌, ◌≤◌, max, ◌≢◌, sym, refl, ap, ◌∙◌, ap₂, mod-lt, one-mul, lt_of_not-le, zero-mul, div-one, arith, pow_pos, shr-shr}
-use native.Mathlib.Nat.{zero-div, div-eq_of_lt}
-use native.Mathlib.Decide.{ℕ_discrete}
-use lib.Bits.{bit_or, or_step}
-use lib.Pow.{pow-lt, shr_mono}
+use Rattle.std.proofs.Common.{◌≡◌, ℕ, zero, suc, ◌+◌, ◌*◌, ◌/◌, ◌%◌, ◌^◌, ◌<◌, ◌≤◌, max, ◌≢◌, sym, refl, ap, ◌∙◌, ap₂, mod-lt, one-mul, lt_of_not-le, zero-mul, div-one, arith, pow_pos, shr-shr, bit_or}
+use Rattle.std.proofs.Math.Nat.{zero-div, div-eq_of_lt}
+use Rattle.std.proofs.Math.Decide.{ℕ_discrete}
+use Rattle.std.specs.Int.Bits.{or_step}
+use Rattle.std.proofs.Math.Pow.{pow-lt, shr_mono}
 use Rattle.binary.specs.Xor.{◌⊕◌, Degree}
 use Rattle.binary.specs.Bit.{bit}
 use Rattle.binary.proofs.Xor.{two_pos, by_digit, zero_xor, xor-zero, xor_self, xor_odd, xor_shr, xor_lt, digits-xor, equal_of_xor, top_one, has_degree, exp_lt}

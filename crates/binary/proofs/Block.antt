@@ -1,27 +1,14 @@
--- A block of divisors: its lists, entry by entry (`entries_at`, `entries_filled`); its divisions side by side, a turn of
--- all at a time (`beside_start`, `beside_turn`, `beside_end`); and that n, .., n + 7 are below a power of 2 where n, a multiple of 8, is
--- (`block-below`). Assumes nothing.
-use Rattle.std.proofs.Common.{◌≡◌, ℕ, ◌+◌, ◌-◌, ◌*◌, ◌%◌, ◌^◌, ◌<◌, ◌≤◌, eqb, List, length, get_or, replicate, sym, ap, ◌∙◌, zero-add, arith, pow-add}
-use lib.ListN.{length-map, get_or-replicate}
-use Rattle.algebra.specs.Lists.{count_up}
+-- A block of divisors: its divisions side by side, a turn of all at a time (`beside_start`, `beside_turn`, `beside_end`); that n, .., n + 7
+-- are below a power of 2 where n, a multiple of 8, is (`block-below`), and so of one degree (`alike`). Assumes nothing.
+use Rattle.std.proofs.Common.{◌≡◌, ℕ, suc, ◌+◌, ◌-◌, ◌*◌, ◌%◌, ◌^◌, ◌<◌, ◌≤◌, eqb, List, get_or, replicate, ap, ◌∙◌, arith, pow-add}
+use Rattle.std.proofs.Math.ListN.{get_or-replicate}
 use Rattle.algebra.specs.Search.{some_below}
-use Rattle.algebra.proofs.CountUp.{count_up-length, map-count_up}
-use Rattle.algebra.proofs.Filled.{Filled, filled_all}
 use Rattle.algebra.proofs.Search.{some_same}
 use Rattle.binary.specs.Xor.{Degree}
 use Rattle.binary.specs.Remainder.{divides}
-use Rattle.binary.specs.Block.{block, raise, turn, entries}
+use Rattle.binary.specs.Block.{block, raise, turn, IsBlock}
 use Rattle.binary.proofs.Xor.{exp_lt}
 use Rattle.binary.proofs.Aligned.{Aligned, aligned_start, aligned_turn, aligned_zero}
-
-pub entries_at : (f : ℕ → ℕ) (i : ℕ) → i < block → get_or (entries f) i 0 ≡ f i
-entries_at f i l = map-count_up f 0 block i 0 l ∙ ap f (zero-add i)
-
--- a list filled in order, one entry a turn
-pub entries_filled : (f : ℕ → ℕ) (old out : List ℕ) (k : ℕ) → length old ≡ block → block ≤ k → Filled f old out k → out ≡ entries f
-entries_filled f old out k e l w =
-    let n : length (entries f) ≡ block = length-map (count_up 0 block) f ∙ count_up-length 0 block in
-    filled_all f old out (entries f) k w (omega arith) (n ∙ sym e) (λ j h. entries_at f j (omega arith))
 
 -- the divisions of p by the raised divisors of degree k: each rest is a value with p's remainder, s places up
 abbrev pub Beside : ℕ → ℕ → List ℕ → List ℕ → ℕ → Type 0
@@ -30,21 +17,17 @@ Beside k p raised rests s = (i d : ℕ) → i < block → Degree k d → get_or 
 pub beside_start : (m k p : ℕ) (raised : List ℕ) → Degree m p → m ≤ 31 → Beside k p raised (replicate block ((p * 2 ^ (31 - m)) % 2 ^ 32)) (31 - m)
 beside_start m k p raised dp l i d h dd e = rw (get_or-replicate block i ((p * 2 ^ (31 - m)) % 2 ^ 32) 0 h) (aligned_start m p d dp l)
 
-pub beside_turn : (k p : ℕ) (raised rests next : List ℕ) (s : ℕ) → s + k ≤ 31 → next ≡ entries (λ i. turn (get_or raised i 0) (get_or rests i 0))
+pub beside_turn : (k p : ℕ) (raised rests next : List ℕ) (s : ℕ) → s + k ≤ 31 → ((i : ℕ) → i < block → get_or next i 0 ≡ turn (get_or raised i 0) (get_or rests i 0))
     → Beside k p raised rests s → Beside k p raised next (s + 1)
-beside_turn k p raised rests next s l q b i d h dd e =
-    rw (q, entries_at (λ i. turn (get_or raised i 0) (get_or rests i 0)) i h, e) (aligned_turn k p d (get_or rests i 0) s dd l (b i d h dd e))
+beside_turn k p raised rests next s l q b i d h dd e = rw (q i h, e) (aligned_turn k p d (get_or rests i 0) s dd l (b i d h dd e))
 
 -- at the end a rest is 0 where its divisor divides
-pub beside_end : (k p : ℕ) (divisors raised rests : List ℕ) (s : ℕ) → k ≤ 32 → s ≡ 32 - k → ((i : ℕ) → i < block → Degree k (get_or divisors i 0))
-    → raised ≡ entries (λ i. raise k (get_or divisors i 0)) → Beside k p raised rests s
-    → some_below (λ i. eqb (get_or rests i 0) 0) block ≡ some_below (λ i. divides (get_or divisors i 0) p) block
-beside_end k p divisors raised rests s l e dd q b =
-    some_same (λ i. eqb (get_or rests i 0) 0) (λ i. divides (get_or divisors i 0) p) block
-    (λ i h.
-    let d = get_or divisors i 0 in
-    let r : get_or raised i 0 ≡ raise k d = ap (λ (x : List ℕ). get_or x i 0) q ∙ entries_at (λ i. raise k (get_or divisors i 0)) i h in
-    aligned_zero k p d (get_or rests i 0) s (dd i h) l e (b i d h (dd i h) r))
+pub beside_end : (k p : ℕ) (divisor : ℕ → ℕ) (raised rests : List ℕ) (s : ℕ) → k ≤ 32 → s ≡ 32 - k → ((i : ℕ) → i < block → Degree k (divisor i))
+    → ((i : ℕ) → i < block → get_or raised i 0 ≡ raise k (divisor i)) → Beside k p raised rests s
+    → some_below (λ i. eqb (get_or rests i 0) 0) block ≡ some_below (λ i. divides (divisor i) p) block
+beside_end k p divisor raised rests s l e dd q b =
+    some_same (λ i. eqb (get_or rests i 0) 0) (λ i. divides (divisor i) p) block
+    (λ i h. aligned_zero k p (divisor i) (get_or rests i 0) s (dd i h) l e (b i (divisor i) h (dd i h) (q i h)))
 
 -- a power of 2 above a number from 8 on is a multiple of 8
 pub block-below : (j n i : ℕ) → block ≤ n → n % block ≡ 0 → i < block → n < 2 ^ j → n + i < 2 ^ j
@@ -53,3 +36,7 @@ block-below j n i h e l b =
     let f : j ≡ (j - 3) + 3 = omega arith in
     let g : 2 ^ j ≡ 2 ^ (j - 3) * 8 = ap (λ (x : ℕ). 2 ^ x) f ∙ pow-add 2 (j - 3) 3 in
     omega arith
+
+-- all divisors of a block have the degree of its first
+pub alike : {first : ℕ} {divisors : List ℕ} (k : ℕ) → IsBlock first divisors → Degree k first → (i : ℕ) → i < block → Degree k (first + i)
+alike {first} k B dd i h = omega (arith, dd.0, block-below (suc k) first i B.low B.whole h dd.1)

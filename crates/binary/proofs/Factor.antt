@@ -1,7 +1,7 @@
 -- What the test of a field polynomial shows (A4): `degree_is`, `factor_free_lem` and `divisor_found` in terms of the test's definition,
 -- `divides-times` that a remainder 0 is a factor, `test_irreducible` that a polynomial which passes is irreducible. Assumes nothing.
 use Rattle.std.proofs.Common.{◌≡◌, ℕ, zero, suc, ◌-◌, ◌/◌, ◌^◌, ◌<◌, ◌≤◌, true, false, not, ltb, ◌≢◌, ◌↔◌, sym, ap, ◌∙◌, arith, pow_mono, le-ltb, lt-ltb, eq-eqb, ne_eqb}
-use mathlib.Core.Bool.{false≢true}
+use Rattle.std.proofs.lemmas.Bool.{false≢true}
 use Rattle.algebra.proofs.Search.{first_is, every_below_lem, not_every_below}
 use Rattle.binary.specs.Xor.{◌⊕◌, Degree}
 use Rattle.binary.specs.Times.{times}

@@ -1,7 +1,7 @@
 -- `fold_step`: the step equation of a recursion on binary digits, which is all that its users see. Assumes nothing.
 use Rattle.std.proofs.Common.{◌≡◌, ℕ, zero, suc, ◌/◌, ◌≤◌, sym, refl, ap, ◌∙◌, le_refl, not-suc-le-zero}
-use native.Mathlib.Decide.{le_ind}
-use lib.Arith.{half_le}
+use Rattle.std.proofs.Math.Decide.{le_ind}
+use Rattle.std.proofs.Math.Arith.{half_le}
 use Rattle.binary.specs.Fold.{fold_f, fold}
 
 module _ (f : ℕ → ℕ → ℕ) where

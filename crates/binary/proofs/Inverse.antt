@@ -1,7 +1,7 @@
 -- Where p is irreducible: no divisor of degree 1 to m - 1 at all (`no_factor`, `no_divisor`), and every element but 0 has an inverse (A5), found by
 -- dividing p again and again; so no zero divisors, and cancellation. Assumes nothing.
 use Rattle.std.proofs.Common.{◌≡◌, ℕ, zero, suc, ◌+◌, ◌/◌, ◌^◌, ◌<◌, ◌≤◌, ◌≢◌, sym, ap, ◌∙◌, subst, not-suc-le-zero, arith, pow_pos, pow_mono}
-use native.Mathlib.Decide.{ℕ_discrete, dec_le}
+use Rattle.std.proofs.Math.Decide.{ℕ_discrete, dec_le}
 use Rattle.binary.specs.Xor.{◌⊕◌, Degree}
 use Rattle.binary.proofs.Xor.{xor-zero, equal_of_xor, xor_self, has_degree, exp_lt, degree_unique, xor_lt}
 use Rattle.binary.specs.Times.{times}

@@ -10,4 +10,6 @@ pub mod Factor
 pub mod Shift
 pub mod Modulus
 pub mod Aligned
+pub mod Any
+pub mod Each
 pub mod Block

@@ -1,7 +1,7 @@
 -- Multiplication by x modulo p as a shift, and one digit of a product taken off. Assumes nothing.
 use Rattle.std.proofs.Common.{◌≡◌, ℕ, suc, ◌-◌, ◌*◌, ◌/◌, ◌%◌, ◌^◌, ◌<◌, ◌≤◌, sym, ap, ◌∙◌, mod-lt, one-mul, zero-mul, arith, pow_pos}
-use native.Mathlib.Nat.{div-eq_of_lt}
-use native.Mathlib.Decide.{dec_lt}
+use Rattle.std.proofs.Math.Nat.{div-eq_of_lt}
+use Rattle.std.proofs.Math.Decide.{dec_lt}
 use Rattle.binary.specs.Xor.{◌⊕◌, Degree}
 use Rattle.binary.proofs.Xor.{two_pos, by_digit, xor-zero, top_one, same-top, ac}
 use Rattle.binary.specs.Times.{times}

@@ -1,9 +1,9 @@
 -- Division of polynomials over GF(2) (A3): `division` and `division_unique` say what quotient and remainder are; the remainder of a
 -- sum is the sum of the remainders, and that of a product may be taken in between. Assumes nothing.
 use Rattle.std.proofs.Common.{◌≡◌, ℕ, zero, suc, ◌+◌, ◌*◌, ◌/◌, ◌%◌, ◌^◌, ◌<◌, ◌≤◌, max, sym, refl, ap, ◌∙◌, ap₂, mod-lt, div-lt_iff_lt-mul, one-mul, zero-mul, le-add_left, arith, pow_pos, pow_mono}
-use native.Mathlib.Nat.{div-eq_of_lt, zero-div}
-use native.Mathlib.Decide.{ℕ_discrete, dec_lt}
-use lib.Arith.{bin_ind}
+use Rattle.std.proofs.Math.Nat.{div-eq_of_lt, zero-div}
+use Rattle.std.proofs.Math.Decide.{ℕ_discrete, dec_lt}
+use Rattle.std.proofs.Math.Arith.{bin_ind}
 use Rattle.binary.specs.Xor.{◌⊕◌, Degree}
 use Rattle.binary.proofs.Xor.{two_pos, zero_xor, xor-zero, xor_assoc, xor_left_comm, xor_twice, equal_of_xor, xor_part, xor_double, digits-xor, digits_of, top_one, same-top, has_degree, xor_lt}
 use Rattle.binary.specs.Fold.{fold_f, fold}

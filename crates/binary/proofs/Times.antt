@@ -1,8 +1,8 @@
 -- The product of polynomials over GF(2): commutative, associative, distributive, with no condition on the numbers (A1); degrees add,
 -- so no product of numbers that are not 0 is 0 (A2). Assumes nothing.
 use Rattle.std.proofs.Common.{◌≡◌, ℕ, zero, suc, ◌+◌, ◌*◌, ◌/◌, ◌%◌, ◌^◌, ◌<◌, ◌≤◌, ◌≢◌, sym, refl, ap, ◌∙◌, ap₂, mod-lt, mul_assoc, suc-add, one-mul, mul-zero, zero-add, zero-mul, mul-one, le-add_left, arith, pow_pos, pow_mono}
-use native.Mathlib.Decide.{ℕ_discrete}
-use lib.Arith.{bin_ind}
+use Rattle.std.proofs.Math.Decide.{ℕ_discrete}
+use Rattle.std.proofs.Math.Arith.{bin_ind}
 use Rattle.binary.specs.Xor.{◌⊕◌, Degree}
 use Rattle.binary.proofs.Xor.{two_pos, by_digit, zero_xor, xor-zero, xor_comm, xor_assoc, xor_left_comm, xor_double, double_half, double_odd, digits-xor, digits_of, keep-top, has_degree, exp_lt, xor_lt}
 use Rattle.binary.specs.Fold.{fold_f, fold}

@@ -1,11 +1,10 @@
 -- The sum of polynomials over GF(2) (A1): a commutative group in which a + a = 0 (ruleset `ac`), digit by digit; and the top digit:
 -- `has_degree`, `degree_unique`, `keep-top`, `same-top`. Assumes nothing.
-use Rattle.std.proofs.Common.{◌≡◌, ℕ, zero, suc, ◌+◌, ◌*◌, ◌/◌, ◌%◌, ◌^◌, ◌<◌, ◌≤◌, ◌≢◌, sym, refl, ap, ◌∙◌, le_of_suc-le-suc, not-suc-le-zero, mod-lt, zero-lt-suc, div-lt_iff_lt-mul, one-mul, lt_of_not-le, le-div_iff_mul-le, arith, pow_pos, pow_mono}
-use native.Mathlib.Nat.{div-eq_of_lt, div-eq_of_lt-le}
-use native.Mathlib.Decide.{ℕ_discrete}
-use lib.Arith.{bin_ind}
+use Rattle.std.proofs.Common.{◌≡◌, ℕ, zero, suc, ◌+◌, ◌*◌, ◌/◌, ◌%◌, ◌^◌, ◌<◌, ◌≤◌, ◌≢◌, sym, refl, ap, ◌∙◌, le_of_suc-le-suc, not-suc-le-zero, mod-lt, zero-lt-suc, div-lt_iff_lt-mul, one-mul, lt_of_not-le, le-div_iff_mul-le, arith, pow_pos, pow_mono, bit_xor}
+use Rattle.std.proofs.Math.Nat.{div-eq_of_lt, div-eq_of_lt-le}
+use Rattle.std.proofs.Math.Decide.{ℕ_discrete}
+use Rattle.std.proofs.Math.Arith.{bin_ind}
 use lib.Bits as bits
-use lib.Bits.{bit_xor}
 use Rattle.binary.specs.Xor.{◌⊕◌, Degree}
 
 pub is_xor : (a b : ℕ) → a ⊕ b ≡ bit_xor a b

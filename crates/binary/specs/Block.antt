@@ -1,9 +1,7 @@
--- Divisions in words of 32 digits, by a block of divisors at once: one turn (`raise`, `turn`), and the lists that a block goes through (`entries`).
+-- Divisions in words of 32 digits, by a block of divisors at once: one turn (`raise`, `turn`), and what a block is (`IsBlock`).
 -- Assumes nothing.
-use Rattle.std.specs.Prelude.{ℕ, ◌+◌, ◌-◌, ◌*◌, ◌/◌, ◌%◌, ◌^◌, ◌<◌, ◌≤◌, List, map, slice_index}
-use Rattle.algebra.specs.Lists.{count_up}
-use Rattle.binary.specs.Xor.{◌⊕◌, Degree}
-use Rattle.binary.specs.Product.{word_degree}
+use Rattle.std.specs.Prelude.{ℕ, ◌+◌, ◌-◌, ◌*◌, ◌/◌, ◌%◌, ◌^◌, ◌≡◌, ◌<◌, ◌≤◌, List, slice_index}
+use Rattle.binary.specs.Xor.{◌⊕◌}
 
 -- how many divisors are tried at once
 abbrev pub block : ℕ
@@ -17,17 +15,8 @@ raise k d = (d * 2 ^ (31 - k)) % 2 ^ 32
 unfoldable pub turn : ℕ → ℕ → ℕ
 turn divisor rest = ((rest ⊕ rest / 2 ^ 31 * divisor) * 2) % 2 ^ 32
 
--- a block's list, with f i at place i
-abbrev pub entries : (ℕ → ℕ) → List ℕ
-entries f = map f (count_up 0 block)
-
--- what the code asks of divisions of a by a block: a of degree m, room in a word, and divisors of one degree k, so that all take as many turns
-pub record Divisions (m k a : ℕ) (divisors : List ℕ) : Type 0 where
-  pub degree : Degree m a
-  pub fits : m ≤ word_degree
-  pub most : k ≤ m
-  pub alike : (i : ℕ) → i < block → Degree k (slice_index divisors i)
-
--- a block further on there still is room in a word
-abbrev pub Room : List ℕ → Type 0
-Room divisors = (i : ℕ) → i < block → slice_index divisors i + block < 2 ^ 32
+-- divisors from `first` on, a multiple of 8: they differ in their last three digits only
+pub record IsBlock (first : ℕ) (divisors : List ℕ) : Type 0 where
+  pub low : block ≤ first
+  pub whole : first % block ≡ 0
+  pub are : (i : ℕ) → i < block → slice_index divisors i ≡ first + i

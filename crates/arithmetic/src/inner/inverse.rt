@@ -1,26 +1,10 @@
-// The inverse by Euclid's algorithm, one digit a turn, with no branch but the loop's; and the quotient.
+// The inverse by Euclid's algorithm, one digit a turn; and the quotient.
 ghost use Rattle.std.specs.Prelude.{◌≡◌, ◌^◌, ◌<◌};
 ghost use Rattle.binary.specs.Product.{product};
-ghost use Rattle.arithmetic.specs.Choice.{less_digit, chosen_of};
 ghost use Rattle.arithmetic.specs.Quotient.{quotient_of};
 
 use crate::inner::field::Field;
-use binary::inner::digit::{degree, picked};
-
-// 1 where x is below y, else 0.
-fn less(x: u32, y: u32) -> u32
-    ensures { (result ≡ less_digit x y) × (result < 2) }
-{
-    (x < y) as u32
-}
-
-// x where the digit is 0, else y.
-fn chosen(digit: u32, x: u32, y: u32) -> u32
-    requires { digit < 2 }
-    ensures { result ≡ chosen_of digit x y }
-{
-    x ^ picked(digit, x ^ y)
-}
+use binary::inner::digit::degree;
 
 impl Field {
     // Throughout, g·a = u and h·a = v modulo the polynomial. A turn takes the top digit off the larger of u and v by a shift of the other,
@@ -34,11 +18,8 @@ impl Field {
         let mut g: u32 = 1;
         let mut h: u32 = 0;
         while u != 1 {
-            let swap = less(u, v);
-            let high = chosen(swap, u, v);
-            let low = chosen(swap, v, u);
-            let above = chosen(swap, g, h);
-            let below = chosen(swap, h, g);
+            // A choice of values, and no swap in place: so the compiler makes no branch of it.
+            let (high, low, above, below) = if u < v { (v, u, h, g) } else { (u, v, g, h) };
             let j = degree(high) - degree(low);
             u = high ^ low << j;
             v = low;

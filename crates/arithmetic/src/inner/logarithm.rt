@@ -6,7 +6,7 @@ use crate::inner::field::Field;
 use binary::inner::digit::power_of_two;
 
 impl Field {
-    // One more than the first exponent e with x^e = a, and 0 where there is none.
+    // One more than the first exponent e with x^e = a, and 0 where there is none: a number by its definition, so no Option.
     pub fn number(self, a: u32) -> u32
         requires { a < 2 ^ self.degree }
         ensures { result ≡ number_of self.degree self.polynomial a }
@@ -26,9 +26,9 @@ impl Field {
     pub fn element(self, n: u32) -> u32
         ensures { result ≡ element_of self.polynomial n }
     {
-        if n == 0 {
-            return 0;
+        match n.checked_sub(1) {
+            Some(e) => self.raised(2, e),
+            None => 0,
         }
-        self.raised(2, n - 1)
     }
 }

@@ -1,7 +1,6 @@
 // Powers and the trace.
 ghost use Rattle.std.specs.Prelude.{◌≡◌, true, ◌^◌, ◌<◌, pos};
 ghost use Rattle.std.specs.Int.Signed.{lt_z};
-ghost use Rattle.binary.specs.Product.{product};
 ghost use Rattle.galois.specs.Power.{power};
 ghost use Rattle.galois.specs.Trace.{trace};
 ghost use Rattle.arithmetic.specs.Power.{power_of};
@@ -9,17 +8,6 @@ ghost use Rattle.arithmetic.specs.Power.{power_of};
 use crate::inner::field::Field;
 
 impl Field {
-    // The sum so far of factors, times x where the digit is 1.
-    fn times_digit(self, digit: u32, so_far: u32, x: u32) -> u32
-        requires { (digit < 2) × (so_far < 2 ^ self.degree) × (x < 2 ^ self.degree) }
-        ensures { result ≡ product self.polynomial so_far (power self.polynomial x digit) }
-    {
-        if digit == 0 {
-            return so_far;
-        }
-        self.product(so_far, x)
-    }
-
     // n factors a, by squaring: one binary digit of n a turn.
     pub fn raised(self, a: u32, n: u32) -> u32
         requires { a < 2 ^ self.degree }
@@ -29,7 +17,9 @@ impl Field {
         let mut base = a;
         let mut left = n;
         while left != 0 {
-            so_far = self.times_digit(left % 2, so_far, base);
+            if left % 2 == 1 {
+                so_far = self.product(so_far, base);
+            }
             base = self.product(base, base);
             left /= 2;
         }
@@ -41,11 +31,8 @@ impl Field {
         requires { (a < 2 ^ self.degree) × (lt_z e (pos 0) ≡ true → 0 < a) }
         ensures { result ≡ power_of self.degree self.polynomial a e }
     {
-        if e < 0 {
-            let base = self.inverse(a);
-            return self.raised(base, e.unsigned_abs());
-        }
-        self.raised(a, e.unsigned_abs())
+        let base = if e < 0 { self.inverse(a) } else { a };
+        self.raised(base, e.unsigned_abs())
     }
 
     // The sum of c and its squares, m terms.
@@ -55,7 +42,7 @@ impl Field {
     {
         let mut sum: u32 = 0;
         let mut x = c;
-        for k in 0..self.degree {
+        for _ in 0..self.degree {
             sum ^= x;
             x = self.product(x, x);
         }

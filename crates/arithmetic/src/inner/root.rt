@@ -6,7 +6,7 @@ ghost use Rattle.arithmetic.specs.EvenDigits.{even_digits};
 use crate::inner::field::Field;
 
 // The sixteen digits of x at the places 0, 2, 4, .., side by side. Single digits are moved into pairs, pairs into fours, fours into
-// eights and eights into the lower half of the word.
+// eights and eights into the lower half of the word. (Four lines: a table of shifts and masks is no plainer.)
 fn even_digits(x: u32) -> u32
     ensures { result ≡ even_digits 16 x }
 {

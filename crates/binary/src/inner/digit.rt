@@ -8,7 +8,7 @@ pub fn degree(x: u32) -> u32
     requires { 0 < x }
     ensures { Degree result x }
 {
-    31 - u32::leading_zeros(x)
+    x.ilog2()
 }
 
 pub fn power_of_two(k: u32) -> u32
@@ -31,5 +31,5 @@ pub fn picked(digit: u32, x: u32) -> u32
     requires { digit < 2 }
     ensures { result ≡ digit * x }
 {
-    x & std::num::wrapping_sub_u32(0, digit)
+    x & 0u32.wrapping_sub(digit)
 }

@@ -40,7 +40,7 @@ impl Modulus {
         let mut sum: u32 = 0;
         let mut x = a;
         let mut y = b;
-        for k in 0..self.degree {
+        for _ in 0..self.degree {
             sum ^= picked(y % 2, x);
             x = self.doubled(x);
             y /= 2;

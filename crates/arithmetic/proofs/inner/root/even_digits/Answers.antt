@@ -1,5 +1,5 @@
 -- `even_digits` meets its contract. Assumes nothing.
-use native.Mathlib.Omega.{arith}
+use Rattle.std.proofs.Common.{arith}
 use Rattle.arithmetic.proofs.EvenDigits.{gathered_is}
 use Rattle.arithmetic.proofs.inner.root.even_digits.Goals as goal
 

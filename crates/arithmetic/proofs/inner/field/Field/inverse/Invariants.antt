@@ -1,5 +1,5 @@
 -- `inverse` meets its contract. Assumes nothing.
-use Prim.Native.Nat.{◌+◌}
+use Rattle.std.proofs.Common.{◌+◌}
 use Rattle.arithmetic.proofs.Steps.{Head}
 use Rattle.arithmetic.proofs.inner.field.Field.inverse.Given as goal
 

@@ -1,6 +1,5 @@
 -- `number` meets its contract. Assumes nothing.
-use native.Mathlib.Omega.{arith}
-use lib.Pow.{pow_mono}
+use Rattle.std.proofs.Common.{arith, pow_mono}
 use Rattle.arithmetic.proofs.Number.{tried_start, tried_turn, tried_found, tried_all}
 use Rattle.arithmetic.proofs.inner.field.Field.number.Goals as goal
 

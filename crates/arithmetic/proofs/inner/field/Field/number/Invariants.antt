@@ -1,5 +1,5 @@
 -- `number` meets its contract. Assumes nothing.
-use Prim.Native.Nat.{◌-◌}
+use Rattle.std.proofs.Common.{◌-◌}
 use Rattle.arithmetic.proofs.Number.{Tried}
 use Rattle.arithmetic.proofs.inner.field.Field.number.Given as goal
 

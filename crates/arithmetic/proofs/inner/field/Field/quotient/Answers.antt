@@ -1,5 +1,5 @@
 -- `quotient` meets its contract. Assumes nothing.
-use mathlib.Core.Path.{◌∙◌}
+use Rattle.std.proofs.Common.{◌∙◌}
 use Rattle.arithmetic.proofs.Quotient.{quotient_by}
 use Rattle.arithmetic.proofs.inner.field.Field.quotient.Goals as goal
 

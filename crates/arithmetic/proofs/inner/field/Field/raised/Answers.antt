@@ -1,16 +1,15 @@
 -- `raised` meets its contract. Assumes nothing.
-use mathlib.Core.Path.{◌≡◌, sym, ap, ap₂, ◌∙◌}
-use Prim.Native.Nat.{ℕ, ◌/◌, ◌%◌, ◌<◌, ◌^◌}
-use native.Mathlib.Omega.{arith}
+use Rattle.std.proofs.Common.{◌≡◌, sym, ap, ap₂, ◌∙◌, ℕ, ◌/◌, ◌%◌, ◌<◌, ◌^◌, arith}
 use Rattle.binary.specs.Product.{product}
 use Rattle.binary.proofs.Product.{product_lt, product_one, one_product, product_assoc}
 use Rattle.galois.specs.Field.{Field}
 use Rattle.galois.proofs.Field.{one_lt}
 use Rattle.galois.specs.Power.{power}
-use Rattle.galois.proofs.Power.{power_lt}
+use Rattle.galois.proofs.Power.{power_lt, power_one}
 use Rattle.arithmetic.proofs.Power.{power-digit}
 use Rattle.arithmetic.proofs.inner.field.Field.raised.Invariants.{Raised}
 use Rattle.arithmetic.proofs.inner.field.Field.raised.Goals as goal
+use Rattle.arithmetic.proofs.inner.field.Field.raised.Goals.{then-left-eq1, else-left-eq1}
 
 module _ (m p : ℕ) (F : Field m p) where
   start : (a n : ℕ) → a < 2 ^ m → Raised m p (power p a n) 1 a n
@@ -28,6 +27,14 @@ module _ (m p : ℕ) (F : Field m p) where
             ∙ ap (product p result) (sym (power-digit m p F base left S.small)) ∙ S.whole;
       }
 
+  -- the digit 0 or 1 of the exponent
+  digit_zero : (result base d : ℕ) → result < 2 ^ m → d ≡ 0 → result ≡ product p result (power p base d)
+  unfolding power
+  digit_zero result base d h e = sym (ap (λ (k : ℕ). product p result (power p base k)) e ∙ product_one m p F.irr.degree result h)
+
+  digit_one : (result base d : ℕ) → base < 2 ^ m → d ≡ 1 → product p result base ≡ product p result (power p base d)
+  digit_one result base d h e = ap (product p result) (sym (ap (power p base) e ∙ power_one m p F base h))
+
   end : (w result base left : ℕ) → left ≡ 0 → Raised m p w result base left → result ≡ w
   unfolding power
   end w result base left e S =
@@ -36,18 +43,20 @@ module _ (m p : ℕ) (F : Field m p) where
 pub loop-left-init : goal.loop-left-init
 loop-left-init c = start c.args.self.degree c.args.self.polynomial c.args.self.is_field.field c.args.a c.args.n c.requires
 
-pub times_digit-so_far-requires : goal.times_digit-so_far-requires
-times_digit-so_far-requires c = (omega arith, c.loop-left.invariant.done, c.loop-left.invariant.small)
-
 pub loop-left-smaller : goal.loop-left-smaller
 loop-left-smaller c = omega arith
 
 pub loop-left-preserved : goal.loop-left-preserved
 loop-left-preserved c =
     let a = c.args in
+    let F = a.self.is_field.field in
     let l = c.loop-left in
-    turn a.self.degree a.self.polynomial c.args.self.is_field.field (power a.self.polynomial a.a a.n) l.so_far l.base l.left _ _ l.invariant
-    c.times_digit-so_far.ensures c.product-base.ensures
+    turn a.self.degree a.self.polynomial F (power a.self.polynomial a.a a.n) l.so_far l.base l.left _ _ l.invariant
+    (elim c.if-left-eq1.branch [
+      | then-left-eq1 w ↦ w.so_far-is ∙ w.product-so_far.ensures ∙ digit_one _ _ F l.so_far l.base (l.left % 2) l.invariant.small w.if-left-eq1.true
+      | else-left-eq1 w ↦ w.so_far-is ∙ digit_zero _ _ F l.so_far l.base (l.left % 2) l.invariant.done (omega (arith, w.if-left-eq1.false))
+    ])
+    c.product-base.ensures
 
 pub returns : goal.returns
 returns c =

@@ -1,6 +1,5 @@
 -- `raised` meets its contract. Assumes nothing.
-use mathlib.Core.Path.{◌≡◌}
-use Prim.Native.Nat.{ℕ, ◌<◌, ◌^◌}
+use Rattle.std.proofs.Common.{◌≡◌, ℕ, ◌<◌, ◌^◌}
 use Rattle.binary.specs.Product.{product}
 use Rattle.galois.specs.Power.{power}
 use Rattle.arithmetic.proofs.inner.field.Field.raised.Given as goal

@@ -1,6 +1,5 @@
 -- `square_root` meets its contract. Assumes nothing.
-use mathlib.Core.Path.{sym, ap, ap₂, ◌∙◌}
-use native.Mathlib.Omega.{arith}
+use Rattle.std.proofs.Common.{sym, ap, ap₂, ◌∙◌, arith}
 use Rattle.binary.specs.Xor.{◌⊕◌}
 use Rattle.binary.proofs.Xor.{is_xor}
 use Rattle.binary.specs.Product.{product}

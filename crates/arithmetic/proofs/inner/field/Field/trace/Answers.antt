@@ -1,9 +1,5 @@
 -- `trace` meets its contract. Assumes nothing.
-use mathlib.Core.Path.{◌≡◌, refl, sym, ap, ap₂, ◌∙◌}
-use Prim.Native.Nat.{ℕ, ◌+◌, ◌≤◌, ◌<◌, ◌^◌}
-use native.Mathlib.Numerals.{add-one}
-use native.Mathlib.Omega.{arith}
-use lib.Bits.{bit_xor}
+use Rattle.std.proofs.Common.{◌≡◌, refl, sym, ap, ap₂, ◌∙◌, ℕ, ◌+◌, ◌≤◌, ◌<◌, ◌^◌, add-one, arith, bit_xor}
 use Rattle.binary.specs.Xor.{◌⊕◌}
 use Rattle.binary.proofs.Xor.{is_xor}
 use Rattle.binary.specs.Product.{product}
@@ -34,18 +30,18 @@ end m p c sum x k l S =
     let q : k ≡ m = omega (arith, S.turns) in
     S.so_far ∙ ap (λ (j : ℕ). part_trace p j c) q
 
-pub loop-k-init : goal.loop-k-init
-loop-k-init c = start c.args.self.degree c.args.self.polynomial c.args.c c.requires
+pub loop-init : goal.loop-init
+loop-init c = start c.args.self.degree c.args.self.polynomial c.args.c c.requires
 
-pub loop-k-preserved : goal.loop-k-preserved
-loop-k-preserved c =
+pub loop-preserved : goal.loop-preserved
+loop-preserved c =
     let a = c.args in
     let q = c.requires in
-    let l = c.loop-k in
-    turn a.self.degree a.self.polynomial a.c l.sum l.x l.k _ a.self.is_field.field q (omega arith) l.invariant c.product-x.ensures
+    let l = c.loop in
+    turn a.self.degree a.self.polynomial a.c l.sum l.x l.counter _ a.self.is_field.field q (omega arith) l.invariant c.product-x.ensures
 
 pub returns : goal.returns
 returns c =
     let a = c.args in
-    let l = c.loop-k in
-    end a.self.degree a.self.polynomial a.c l.sum l.x l.k (omega arith) l.invariant
+    let l = c.loop in
+    end a.self.degree a.self.polynomial a.c l.sum l.x l.counter (omega arith) l.invariant

@@ -1,6 +1,5 @@
 -- `trace` meets its contract. Assumes nothing.
-use mathlib.Core.Path.{◌≡◌}
-use Prim.Native.Nat.{ℕ, ◌-◌, ◌≤◌, ◌<◌, ◌^◌}
+use Rattle.std.proofs.Common.{◌≡◌, ℕ, ◌≤◌, ◌<◌, ◌^◌}
 use Rattle.galois.specs.Power.{squares}
 use Rattle.galois.specs.Trace.{part_trace}
 use Rattle.arithmetic.proofs.inner.field.Field.trace.Given as goal
@@ -11,8 +10,5 @@ pub record Traced (m p c sum x k : ℕ) : Type 0 where
   pub now : x ≡ squares p k c
   pub so_far : sum ≡ part_trace p k c
 
-abbrev pub invariant-loop-k : goal.invariant-loop-k
-invariant-loop-k l = Traced l.self.degree l.self.polynomial l.c l.sum l.x l.k
-
-abbrev pub decreases-loop-k : goal.decreases-loop-k
-decreases-loop-k l = l.self.degree - l.k
+abbrev pub invariant-loop : goal.invariant-loop
+invariant-loop l = Traced l.self.degree l.self.polynomial l.c l.sum l.x l.counter

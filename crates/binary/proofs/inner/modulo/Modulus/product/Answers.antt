@@ -1,6 +1,5 @@
 -- `product` meets its contract: what is summed, and the product that is left, make the whole product. Assumes nothing.
-use Rattle.std.proofs.Common.{◌≡◌, ℕ, suc, ◌+◌, ◌-◌, ◌*◌, ◌/◌, ◌%◌, ◌^◌, ◌<◌, ◌≤◌, sym, ap, ◌∙◌, arith}
-use lib.Bits.{bit_xor}
+use Rattle.std.proofs.Common.{◌≡◌, ℕ, suc, ◌+◌, ◌-◌, ◌*◌, ◌/◌, ◌%◌, ◌^◌, ◌<◌, ◌≤◌, sym, ap, ◌∙◌, arith, bit_xor}
 use Rattle.binary.specs.Xor.{◌⊕◌, Degree}
 use Rattle.binary.proofs.Xor.{is_xor, zero_xor, xor-zero, xor_assoc}
 use Rattle.binary.specs.Product.{product, times_x}
@@ -33,21 +32,18 @@ end m p w sum x y k l s =
     let z : y ≡ 0 = omega (arith, rw e at s.rest) in
     sym (xor-zero sum) ∙ ap (λ (v : ℕ). sum ⊕ v) (sym (ap (product p x) z ∙ product-zero p x)) ∙ s.whole
 
-pub loop-k-init : goal.loop-k-init
-loop-k-init c = let a = c.args in start a.self.degree a.self.polynomial a.a a.b c.requires.0 c.requires.1
+pub loop-init : goal.loop-init
+loop-init c = let a = c.args in start a.self.degree a.self.polynomial a.a a.b c.requires.0 c.requires.1
 
-pub doubled-x-requires : goal.doubled-x-requires
-doubled-x-requires c = c.loop-k.invariant.first
-
-pub loop-k-preserved : goal.loop-k-preserved
-loop-k-preserved c =
+pub loop-preserved : goal.loop-preserved
+loop-preserved c =
     let a = c.args in
-    let l = c.loop-k in
-    turn a.self.degree a.self.polynomial (product a.self.polynomial a.a a.b) l.sum l.x l.y l.k _ _ a.self.is_modulus.degree (omega arith) l.invariant
+    let l = c.loop in
+    turn a.self.degree a.self.polynomial (product a.self.polynomial a.a a.b) l.sum l.x l.y l.counter _ _ a.self.is_modulus.degree (omega arith) l.invariant
     c.picked-sum.ensures c.doubled-x.ensures
 
 pub returns : goal.returns
 returns c =
     let a = c.args in
-    let l = c.loop-k in
-    end a.self.degree a.self.polynomial (product a.self.polynomial a.a a.b) l.sum l.x l.y l.k (omega arith) l.invariant
+    let l = c.loop in
+    end a.self.degree a.self.polynomial (product a.self.polynomial a.a a.b) l.sum l.x l.y l.counter (omega arith) l.invariant

@@ -10,8 +10,5 @@ pub record Summed (m p w sum x y k : ℕ) : Type 0 where
   pub rest : y < 2 ^ (m - k)
   pub whole : sum ⊕ product p x y ≡ w
 
-abbrev pub invariant-loop-k : goal.invariant-loop-k
-invariant-loop-k l = Summed l.self.degree l.self.polynomial (product l.self.polynomial l.a l.b) l.sum l.x l.y l.k
-
-abbrev pub decreases-loop-k : goal.decreases-loop-k
-decreases-loop-k l = l.self.degree - l.k
+abbrev pub invariant-loop : goal.invariant-loop
+invariant-loop l = Summed l.self.degree l.self.polynomial (product l.self.polynomial l.a l.b) l.sum l.x l.y l.counter
