@@ -9,7 +9,7 @@ use Rattle.binary.proofs.Xor.{xor-zero, exp_lt}
 use Rattle.binary.proofs.Times.{times-xor}
 use Rattle.binary.specs.Remainder.{remainder, divides}
 use Rattle.binary.proofs.Remainder.{remainder_small}
-use Rattle.binary.specs.Product.{Modulus}
+use Rattle.binary.specs.Factor.{Division}
 use Rattle.binary.specs.Block.{raise, turn}
 use Rattle.binary.proofs.Shift.{shift_is, shift_exact, lowered_mod, lowered_lt}
 
@@ -21,11 +21,11 @@ pub record Aligned (p d rest s : ℕ) : Type 0 where
   pub same : remainder value d ≡ remainder p d
 
 -- the degree of a divisor
-pub divisor_degree : {m p d k : ℕ} → Modulus m p → 2 ≤ d → d ≤ p → Degree k d → (1 ≤ k) × (k ≤ m) × (m ≤ 30)
-divisor_degree {m} {p} {d} {k} M two most h =
-    let w = exp_lt k (suc m) p (omega (arith, h.0)) M.degree.1 in
-    let v = exp_lt 1 (suc k) d two h.1 in
-    (omega arith, omega arith, M.fits)
+pub divisor_degree : {m a d k : ℕ} → Division m a d → Degree k d → (1 ≤ k) × (k ≤ m) × (m ≤ 30)
+divisor_degree {m} {a} {d} {k} D h =
+    let w = exp_lt k (suc m) a (omega (arith, D.most, h.0)) D.degree.1 in
+    let v = exp_lt 1 (suc k) d D.two h.1 in
+    (omega arith, omega arith, D.fits)
 
 pub aligned_start : (m p d : ℕ) → Degree m p → m ≤ 31 → Aligned p d ((p * 2 ^ (31 - m)) % 2 ^ 32) (31 - m)
 aligned_start m p d dp l =

@@ -2,7 +2,7 @@
 ghost use Rattle.std.specs.Prelude.{◌≡◌, ℕ, ◌<◌, ◌≤◌, ◌^◌, ◌+◌, nat_eq, slice_index};
 ghost use Rattle.algebra.specs.Search.{some_below};
 ghost use Rattle.binary.specs.Remainder.{divides};
-ghost use Rattle.binary.specs.Block.{block, raise, turn, IsBlock};
+ghost use Rattle.binary.specs.Block.{block, raise, turn, IsBlock, Divisions};
 
 use crate::inner::digit::degree;
 use crate::inner::division::turned;
@@ -67,20 +67,29 @@ fn has_zero(rests: [u32; BLOCK]) -> bool
     false
 }
 
+// Whether one of the divisors, all of degree k, divides a, of degree m. The divisions go on side by side, a turn of all before the next, so
+// that one vector instruction does several. (a and m are no Modulus, as in `remainder`. `next`: the kit takes an array from a call only into a
+// new local.)
+pub fn some_divides(a: u32, m: u32, divisors: [u32; BLOCK], k: u32) -> bool
+    requires { Divisions m k a divisors }
+    ensures { result ≡ some_below (λ i. divides (slice_index divisors i) a) block }
+{
+    let raised = raised(divisors, k);
+    let mut rests = [a << (31 - m); BLOCK];
+    for _ in 31 - m..32 - k {
+        let next = turned_each(rests, raised);
+        rests = next;
+    }
+    has_zero(rests)
+}
+
 impl Modulus {
-    // Whether one of the divisors divides the polynomial. The divisions go on side by side, a turn of all before the next, so that one
-    // vector instruction does several. (`next`: the kit takes an array from a call only into a new local.)
-    pub fn some_divides(self, candidates: Block) -> bool
+    // Whether one of the candidates divides the polynomial.
+    pub fn has_divisor_in(self, candidates: Block) -> bool
         requires { candidates.first ≤ self.polynomial }
         ensures { result ≡ some_below (λ i. divides (candidates.first + i) self.polynomial) block }
     {
         let k = degree(candidates.first);
-        let raised = raised(candidates.divisors, k);
-        let mut rests = [self.polynomial << (31 - self.degree); BLOCK];
-        for _ in 31 - self.degree..32 - k {
-            let next = turned_each(rests, raised);
-            rests = next;
-        }
-        has_zero(rests)
+        some_divides(self.polynomial, self.degree, candidates.divisors, k)
     }
 }

@@ -7,6 +7,7 @@ ghost use Rattle.binary.specs.Factor.{factor_free};
 
 use crate::inner::block::Block;
 use crate::inner::digit::power_of_two;
+use crate::inner::division::remainder;
 use crate::inner::modulo::Modulus;
 
 impl Modulus {
@@ -15,7 +16,7 @@ impl Modulus {
         requires { limit ≤ self.polynomial }
         ensures { result ≡ some_below (λ i. divides (suc (suc i)) self.polynomial) (min limit block - 2) }
     {
-        (2..limit.min(8)).any(|d| self.remainder(d) == 0)
+        (2..limit.min(8)).any(|d| remainder(self.polynomial, self.degree, d) == 0)
     }
 
     // Whether no polynomial of degree 1 to m / 2 divides this one, of degree m. (A proper factor, or its cofactor, has such a degree.) From
@@ -29,7 +30,7 @@ impl Modulus {
         }
         let mut candidates = Block::lowest();
         while candidates.first < limit {
-            if self.some_divides(candidates) {
+            if self.has_divisor_in(candidates) {
                 return false;
             }
             candidates = candidates.following();

@@ -86,18 +86,18 @@ pub loop-candidates-init : goal.loop-candidates-init
 loop-candidates-init c =
     rw c.lowest-candidates.ensures (start c.args.self.degree c.args.self.polynomial _ c.power_of_two-limit.ensures (sym c.few_divide.ensures ∙ c.if-few_divide.false))
 
-pub some_divides-requires : goal.some_divides-requires
-some_divides-requires c = let w = limit-le c.args.self.is_modulus c.power_of_two-limit.ensures in omega arith
+pub has_divisor_in-requires : goal.has_divisor_in-requires
+has_divisor_in-requires c = let w = limit-le c.args.self.is_modulus c.power_of_two-limit.ensures in omega arith
 
-pub returns-then-some_divides : goal.returns-then-some_divides
-returns-then-some_divides c =
+pub returns-then-has_divisor_in : goal.returns-then-has_divisor_in
+returns-then-has_divisor_in c =
     let l = c.loop-candidates in
-    divisor l.invariant l.candidates.is_block (omega arith) (sym c.some_divides.ensures ∙ c.if-some_divides.true)
+    divisor l.invariant l.candidates.is_block (omega arith) (sym c.has_divisor_in.ensures ∙ c.if-has_divisor_in.true)
 
 pub loop-candidates-preserved : goal.loop-candidates-preserved
 loop-candidates-preserved c =
     let l = c.loop-candidates in
-    rw c.following-candidates.ensures (turn l.invariant l.candidates.is_block (omega arith) (sym c.some_divides.ensures ∙ c.if-some_divides.false))
+    rw c.following-candidates.ensures (turn l.invariant l.candidates.is_block (omega arith) (sym c.has_divisor_in.ensures ∙ c.if-has_divisor_in.false))
 
 pub returns : goal.returns
 returns c = all c.loop-candidates.invariant (omega arith)
