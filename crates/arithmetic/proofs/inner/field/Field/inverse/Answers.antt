@@ -24,16 +24,6 @@ degree_lt c =
 pub loop-u-init : goal.loop-u-init
 loop-u-init c = steps_start c.args.self.degree c.args.self.polynomial c.args.a c.args.self.is_field.field c.requires.0 c.requires.1
 
-pub degree-requires : goal.degree-requires
-degree-requires c =
-    let O = ordered c in
-    omega (arith, O.two, O.le)
-
-pub degree-requires-in-loop-u : goal.degree-requires-in-loop-u
-degree-requires-in-loop-u c =
-    let O = ordered (goal.at.degree-requires-in-loop-u c).Joined-u-v in
-    omega (arith, O.two)
-
 pub overflow_sub-j : goal.overflow_sub-j
 overflow_sub-j c =
     let O = ordered (goal.at.overflow_sub-j c).Joined-u-v in

@@ -4,11 +4,6 @@ use Rattle.arithmetic.proofs.Power.{power_plain, power_inverse}
 use Rattle.arithmetic.proofs.inner.field.Field.power.Goals as goal
 use Rattle.arithmetic.proofs.inner.field.Field.power.Goals.{then-e-lt0, else-e-lt0}
 
-pub inverse-base-requires : goal.inverse-base-requires
-inverse-base-requires c =
-    let i = to_z-of_z c.ranges.e in
-    (c.requires.1 (rw i at c.if-e-lt0.true), c.requires.0)
-
 pub returns : goal.returns
 returns c =
     let a = c.args in

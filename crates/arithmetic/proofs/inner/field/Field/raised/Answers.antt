@@ -43,9 +43,6 @@ module _ (m p : ℕ) (F : Field m p) where
 pub loop-left-init : goal.loop-left-init
 loop-left-init c = start c.args.self.degree c.args.self.polynomial c.args.self.is_field.field c.args.a c.args.n c.requires
 
-pub loop-left-smaller : goal.loop-left-smaller
-loop-left-smaller c = omega arith
-
 pub loop-left-preserved : goal.loop-left-preserved
 loop-left-preserved c =
     let a = c.args in

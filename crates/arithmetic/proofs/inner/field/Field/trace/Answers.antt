@@ -1,12 +1,12 @@
 -- `trace` meets its contract. Assumes nothing.
-use Rattle.std.proofs.Common.{◌≡◌, refl, sym, ap, ap₂, ◌∙◌, ℕ, ◌+◌, ◌≤◌, ◌<◌, ◌^◌, add-one, arith, bit_xor}
+use Rattle.std.proofs.Common.{◌≡◌, refl, sym, ap, ap₂, ◌∙◌, ℕ, ◌+◌, ◌<◌, ◌^◌, add-one, arith, bit_xor}
 use Rattle.binary.specs.Xor.{◌⊕◌}
 use Rattle.binary.proofs.Xor.{is_xor}
 use Rattle.binary.specs.Product.{product}
 use Rattle.galois.specs.Field.{Field}
 use Rattle.galois.specs.Power.{squares}
 use Rattle.galois.proofs.Power.{squares_lt}
-use Rattle.galois.specs.Trace.{part_trace, trace}
+use Rattle.galois.specs.Trace.{part_trace}
 use Rattle.arithmetic.proofs.inner.field.Field.trace.Invariants.{Traced}
 use Rattle.arithmetic.proofs.inner.field.Field.trace.Goals as goal
 
@@ -25,11 +25,6 @@ turn m p c sum x k r F h l S e =
       so_far = sym (is_xor sum x) ∙ ap₂ ◌⊕◌ S.so_far S.now ∙ ap (λ (j : ℕ). part_trace p j c) (sym (add-one k));
     }
 
-end : (m p c sum x k : ℕ) → m ≤ k → Traced m p c sum x k → sum ≡ trace m p c
-end m p c sum x k l S =
-    let q : k ≡ m = omega (arith, S.turns) in
-    S.so_far ∙ ap (λ (j : ℕ). part_trace p j c) q
-
 pub loop-init : goal.loop-init
 loop-init c = start c.args.self.degree c.args.self.polynomial c.args.c c.requires
 
@@ -39,9 +34,3 @@ loop-preserved c =
     let q = c.requires in
     let l = c.loop in
     turn a.self.degree a.self.polynomial a.c l.sum l.x l.counter _ a.self.is_field.field q (omega arith) l.invariant c.product-x.ensures
-
-pub returns : goal.returns
-returns c =
-    let a = c.args in
-    let l = c.loop in
-    end a.self.degree a.self.polynomial a.c l.sum l.x l.counter (omega arith) l.invariant
