@@ -1,13 +1,9 @@
 -- `unguarded_solve` meets its contract: both lists are just long enough. Assumes nothing.
-use Rattle.std.proofs.Common.{◌≡◌, ap, ◌∙◌, arith, rules, ℕ, List, ◌++◌, length, drop, subst, pow_pos}
+use Rattle.std.proofs.Common.{◌≡◌, ap, ◌∙◌, arith, rules, ℕ, List, ◌++◌, length, drop}
 use mathlib.Core.List.{append-nil}
 use lib.ListN.{drop_of_length-le}
-use Rattle.binary.specs.Factor.{degree_of}
-use Rattle.binary.proofs.Factor.{degree_is}
-use Rattle.arithmetic.specs.Modulus.{FieldModulus}
 use Rattle.roots.specs.Limits.{most_roots}
 use Rattle.roots.specs.Calls.{Answer}
-use Rattle.roots.proofs.Tests.{equation_passed}
 use Rattle.unguarded.specs.Count.{count_of}
 use Rattle.unguarded.proofs.inner.unguarded_solve.Goals as goal
 
