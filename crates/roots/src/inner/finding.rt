@@ -79,9 +79,10 @@ impl Equation {
         let l1 = c1 ^ field.product(c2, t);
         let zs = solutions(field, 0, l0, l1, c3);
         if l0 != 0 {
-            return zs.rest().map(move |z| z ^ t);
+            zs.rest().map(move |z| z ^ t)
+        } else {
+            zs.map(move |z| z ^ t)
         }
-        zs.map(move |z| z ^ t)
     }
 
     // Degree 4 with c3 not 0: x = s + 1/y with s^2 = q = c1/c3 takes away the term y^3. Times y^4 it is
@@ -99,10 +100,7 @@ impl Equation {
         let l2 = c0 ^ field.product(q, c2 ^ field.product(q, c4));
         let ys = solutions(field, c4, c3, l1, l2);
         let others = ys.map(move |y| from_inverse(field, s, y));
-        if l2 != 0 {
-            return others;
-        }
-        others.with_last(s)
+        if l2 != 0 { others } else { others.with_last(s) }
     }
 
     // With a term in x^3: a quartic or a cubic. Without one: an equation that is affine as it stands, of degree 4 or 2; degree 1; a constant.

@@ -35,9 +35,10 @@ impl Polynomial {
         let f = self.coefficients;
         let field = self.field;
         if f[1] ^ field.product(f[3], field.product(r, r)) != 0 {
-            return 1;
+            1
+        } else {
+            self.divisions(r)
         }
-        self.divisions(r)
     }
 
     // The highest coefficient that is not 0.
@@ -62,8 +63,9 @@ impl Equation {
     {
         let f = self.polynomial;
         if found.count == f.degree() {
-            return found.map(|_| 1);
+            found.map(|_| 1)
+        } else {
+            found.map(move |r| f.multiplicity(r))
         }
-        found.map(move |r| f.multiplicity(r))
     }
 }
