@@ -6,7 +6,8 @@ ghost use Rattle.galois.specs.Roots.{roots_of};
 ghost use Rattle.linear.specs.Limits.{places};
 ghost use Rattle.linear.specs.Values.{solutions};
 ghost use Rattle.affine.specs.Equation.{solution_of};
-ghost use Rattle.roots.specs.Equation.{Ready, HoldsRoots, quartic_of, folded, from_inverse};
+ghost use Rattle.roots.specs.Equation.{Ready, quartic_of, folded, from_inverse};
+ghost use Rattle.roots.specs.Roots.{AreRoots};
 ghost use Rattle.roots.specs.ShortList.{entries};
 
 use crate::inner::equation::Equation;
@@ -59,7 +60,7 @@ impl Equation {
     // Degree 1: c0/c1 (E1).
     fn linear_root(self) -> ShortList
         requires { (get_or self.polynomial.coefficients 1 0 ≢ 0) × (get_or self.polynomial.coefficients 2 0 ≡ 0) × (get_or self.polynomial.coefficients 3 0 ≡ 0) × (get_or self.polynomial.coefficients 4 0 ≡ 0) }
-        ensures { HoldsRoots self.polynomial.field.degree self.polynomial.field.polynomial self.polynomial.coefficients (entries result) }
+        ensures { AreRoots self (entries result) }
     {
         let [c0, c1, ..] = self.polynomial.coefficients;
         let root = self.polynomial.field.quotient(c0, c1);
@@ -70,7 +71,7 @@ impl Equation {
     // The root 0 that comes with the factor z, the smallest of all, counts only if t is a root of the cubic, whose value there is c0 + c1·t.
     fn cubic_roots(self) -> ShortList
         requires { (get_or self.polynomial.coefficients 3 0 ≢ 0) × (get_or self.polynomial.coefficients 4 0 ≡ 0) }
-        ensures { HoldsRoots self.polynomial.field.degree self.polynomial.field.polynomial self.polynomial.coefficients (entries result) }
+        ensures { AreRoots self (entries result) }
     {
         let field = self.polynomial.field;
         let [c0, c1, c2, c3, _] = self.polynomial.coefficients;
@@ -90,7 +91,7 @@ impl Equation {
     // s itself.
     fn quartic_roots(self) -> ShortList
         requires { (get_or self.polynomial.coefficients 3 0 ≢ 0) × (get_or self.polynomial.coefficients 4 0 ≢ 0) }
-        ensures { HoldsRoots self.polynomial.field.degree self.polynomial.field.polynomial self.polynomial.coefficients (entries result) }
+        ensures { AreRoots self (entries result) }
     {
         let field = self.polynomial.field;
         let [c0, c1, c2, c3, c4] = self.polynomial.coefficients;
@@ -105,7 +106,7 @@ impl Equation {
 
     // With a term in x^3: a quartic or a cubic. Without one: an equation that is affine as it stands, of degree 4 or 2; degree 1; a constant.
     pub fn roots(self) -> ShortList
-        ensures { HoldsRoots self.polynomial.field.degree self.polynomial.field.polynomial self.polynomial.coefficients (entries result) }
+        ensures { AreRoots self (entries result) }
     {
         let [c0, c1, c2, c3, c4] = self.polynomial.coefficients;
         if c3 != 0 {

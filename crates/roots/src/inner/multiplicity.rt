@@ -1,8 +1,8 @@
 // How often x + r divides.
-ghost use Rattle.std.specs.Prelude.{◌≡◌, map, ◌^◌, ◌<◌};
+ghost use Rattle.std.specs.Prelude.{◌≡◌, ◌^◌, ◌<◌};
 ghost use Rattle.galois.specs.Polynomial.{AllZero, IsDegree, Root};
-ghost use Rattle.galois.specs.Roots.{roots_of};
 ghost use Rattle.galois.specs.Multiplicity.{multiplicity};
+ghost use Rattle.roots.specs.Roots.{roots, multiplicities};
 ghost use Rattle.roots.specs.ShortList.{Placed};
 
 use crate::inner::equation::Equation;
@@ -58,8 +58,8 @@ impl Polynomial {
 impl Equation {
     // Of each root that was found. As many different roots as the degree: then each counts once, and nothing need be divided (E5).
     pub fn multiplicities(self, found: ShortList) -> ShortList
-        requires { Placed (roots_of self.polynomial.field.degree self.polynomial.field.polynomial self.polynomial.coefficients) found }
-        ensures { Placed (map (λ r. multiplicity self.polynomial.field.polynomial r self.polynomial.coefficients) (roots_of self.polynomial.field.degree self.polynomial.field.polynomial self.polynomial.coefficients)) result }
+        requires { Placed (roots self) found }
+        ensures { Placed (multiplicities self) result }
     {
         let f = self.polynomial;
         if found.count == f.degree() {
