@@ -27,9 +27,6 @@ module _ (m p : ℕ) (f : List ℕ) (five : length f ≡ 5) (R : Ready m p f) (n
   small : (i : ℕ) → get_or f i 0 < 2 ^ m
   small i = coeff_at m f i R.small
 
-  pub quotient_ready : (get_or f 1 0 < 2 ^ m) × (0 < get_or f 3 0) × (get_or f 3 0 < 2 ^ m)
-  quotient_ready = (small 1, positive (get_or f 3 0) n3, small 3)
-
   module _ (q : ℕ) (eq : q ≡ quotient_of m p (get_or f 1 0) (get_or f 3 0)) where
     pub root_ready : q < 2 ^ m
     root_ready = rw eq (quotient_lt m p R.field.field (get_or f 1 0) (get_or f 3 0) (small 1) (positive (get_or f 3 0) n3) (small 3))

@@ -6,7 +6,8 @@ ghost use Rattle.galois.specs.Roots.{roots_of};
 ghost use Rattle.linear.specs.Limits.{places};
 ghost use Rattle.linear.specs.Values.{solutions};
 ghost use Rattle.affine.specs.Equation.{solution_of};
-ghost use Rattle.roots.specs.Equation.{Ready, HoldsRoots, quartic_of, folded, from_inverse};
+ghost use Rattle.roots.specs.Equation.{Ready, quartic_of, folded, from_inverse};
+ghost use Rattle.roots.specs.Roots.{AreRoots};
 ghost use Rattle.roots.specs.ShortList.{entries};
 
 use crate::inner::equation::Equation;
@@ -59,7 +60,7 @@ impl Equation {
     // Degree 1: c0/c1 (E1).
     fn linear_root(self) -> ShortList
         requires { (get_or self.polynomial.coefficients 1 0 ≢ 0) × (get_or self.polynomial.coefficients 2 0 ≡ 0) × (get_or self.polynomial.coefficients 3 0 ≡ 0) × (get_or self.polynomial.coefficients 4 0 ≡ 0) }
-        ensures { HoldsRoots self.polynomial.field.degree self.polynomial.field.polynomial self.polynomial.coefficients (entries result) }
+        ensures { AreRoots self (entries result) }
     {
         let [c0, c1, ..] = self.polynomial.coefficients;
         let root = self.polynomial.field.quotient(c0, c1);
@@ -70,7 +71,7 @@ impl Equation {
     // The root 0 that comes with the factor z, the smallest of all, counts only if t is a root of the cubic, whose value there is c0 + c1·t.
     fn cubic_roots(self) -> ShortList
         requires { (get_or self.polynomial.coefficients 3 0 ≢ 0) × (get_or self.polynomial.coefficients 4 0 ≡ 0) }
-        ensures { HoldsRoots self.polynomial.field.degree self.polynomial.field.polynomial self.polynomial.coefficients (entries result) }
+        ensures { AreRoots self (entries result) }
     {
         let field = self.polynomial.field;
         let [c0, c1, c2, c3, _] = self.polynomial.coefficients;
@@ -79,9 +80,10 @@ impl Equation {
         let l1 = c1 ^ field.product(c2, t);
         let zs = solutions(field, 0, l0, l1, c3);
         if l0 != 0 {
-            return zs.rest().map(move |z| z ^ t);
+            zs.rest().map(move |z| z ^ t)
+        } else {
+            zs.map(move |z| z ^ t)
         }
-        zs.map(move |z| z ^ t)
     }
 
     // Degree 4 with c3 not 0: x = s + 1/y with s^2 = q = c1/c3 takes away the term y^3. Times y^4 it is
@@ -89,7 +91,7 @@ impl Equation {
     // s itself.
     fn quartic_roots(self) -> ShortList
         requires { (get_or self.polynomial.coefficients 3 0 ≢ 0) × (get_or self.polynomial.coefficients 4 0 ≢ 0) }
-        ensures { HoldsRoots self.polynomial.field.degree self.polynomial.field.polynomial self.polynomial.coefficients (entries result) }
+        ensures { AreRoots self (entries result) }
     {
         let field = self.polynomial.field;
         let [c0, c1, c2, c3, c4] = self.polynomial.coefficients;
@@ -99,15 +101,12 @@ impl Equation {
         let l2 = c0 ^ field.product(q, c2 ^ field.product(q, c4));
         let ys = solutions(field, c4, c3, l1, l2);
         let others = ys.map(move |y| from_inverse(field, s, y));
-        if l2 != 0 {
-            return others;
-        }
-        others.with_last(s)
+        if l2 != 0 { others } else { others.with_last(s) }
     }
 
     // With a term in x^3: a quartic or a cubic. Without one: an equation that is affine as it stands, of degree 4 or 2; degree 1; a constant.
     pub fn roots(self) -> ShortList
-        ensures { HoldsRoots self.polynomial.field.degree self.polynomial.field.polynomial self.polynomial.coefficients (entries result) }
+        ensures { AreRoots self (entries result) }
     {
         let [c0, c1, c2, c3, c4] = self.polynomial.coefficients;
         if c3 != 0 {

@@ -1,8 +1,8 @@
 // How often x + r divides.
-ghost use Rattle.std.specs.Prelude.{◌≡◌, map, ◌^◌, ◌<◌};
+ghost use Rattle.std.specs.Prelude.{◌≡◌, ◌^◌, ◌<◌};
 ghost use Rattle.galois.specs.Polynomial.{AllZero, IsDegree, Root};
-ghost use Rattle.galois.specs.Roots.{roots_of};
 ghost use Rattle.galois.specs.Multiplicity.{multiplicity};
+ghost use Rattle.roots.specs.Roots.{roots, multiplicities};
 ghost use Rattle.roots.specs.ShortList.{Placed};
 
 use crate::inner::equation::Equation;
@@ -35,9 +35,10 @@ impl Polynomial {
         let f = self.coefficients;
         let field = self.field;
         if f[1] ^ field.product(f[3], field.product(r, r)) != 0 {
-            return 1;
+            1
+        } else {
+            self.divisions(r)
         }
-        self.divisions(r)
     }
 
     // The highest coefficient that is not 0.
@@ -57,13 +58,14 @@ impl Polynomial {
 impl Equation {
     // Of each root that was found. As many different roots as the degree: then each counts once, and nothing need be divided (E5).
     pub fn multiplicities(self, found: ShortList) -> ShortList
-        requires { Placed (roots_of self.polynomial.field.degree self.polynomial.field.polynomial self.polynomial.coefficients) found }
-        ensures { Placed (map (λ r. multiplicity self.polynomial.field.polynomial r self.polynomial.coefficients) (roots_of self.polynomial.field.degree self.polynomial.field.polynomial self.polynomial.coefficients)) result }
+        requires { Placed (roots self) found }
+        ensures { Placed (multiplicities self) result }
     {
         let f = self.polynomial;
         if found.count == f.degree() {
-            return found.map(|_| 1);
+            found.map(|_| 1)
+        } else {
+            found.map(move |r| f.multiplicity(r))
         }
-        found.map(move |r| f.multiplicity(r))
     }
 }

@@ -5,9 +5,6 @@ use Rattle.roots.proofs.ShortLists.{placed_entries}
 use Rattle.roots.proofs.Spaces.{no_solutions, solutions_few, solutions_are}
 use Rattle.roots.proofs.inner.finding.solutions.Goals as goal
 
-pub space-requires : goal.space-requires
-space-requires c = (c.requires.largest, c.requires.small)
-
 pub returns-in_default : goal.returns-in_default
 returns-in_default c = placed_entries _ _ c.empty.ensures ∙ no_solutions _ _ _ _ _ _ c.requires c.in_default.ensures
 

@@ -42,12 +42,12 @@ returns-then-l0-ne0 c =
     c.if-l0-ne0.true _ _ c.rest.ensures
     (moved_by c.quotient-t.result _ c.rest.result c.map.result (search rules) (search rules) c.map.ensures (λ i y h r. search rules)))
 
-pub returns : goal.returns
-returns c =
+pub returns-else-l0-ne0 : goal.returns-else-l0-ne0
+returns-else-l0-ne0 c =
     let f = c.args.self.polynomial.coefficients in
     let k = as_cubic f (search rules) c.requires.1 in
     let R = ready_as _ _ f _ k (ready c.args.self) in
     roots_as _ _ f _ _ k
     (all_roots_lem _ _ _ _ _ _ R c.requires.0 _ _ _ c.quotient-t.ensures c.product.ensures c.product-2.ensures _ c.solutions-zs.ensures
     c.if-l0-ne0.false _
-    (moved_by c.quotient-t.result _ c.solutions-zs.result c.map-2.result (search rules) (search rules) c.map-2.ensures (λ i y h r. search rules)))
+    (moved_by c.quotient-t.result _ c.solutions-zs.result c.map-else-l0-ne0.result (search rules) (search rules) c.map-else-l0-ne0.ensures (λ i y h r. search rules)))

@@ -15,13 +15,13 @@ returns-then-found-degree c =
     one ∙ counts_once _ _ _ (ready c.args.self) _ c.requires i h _ c.degree.ensures c.if-found-degree.true)
     _ c.requires
 
-pub map-requires-2 : goal.map-requires-2
-map-requires-2 c i h =
+pub map-requires-else-found-degree : goal.map-requires-else-found-degree
+map-requires-else-found-degree c i h =
     let root = found_root _ _ _ (ready c.args.self) _ c.requires i h in
     search rules
 
-pub returns : goal.returns
-returns c =
+pub returns-else-found-degree : goal.returns-else-found-degree
+returns-else-found-degree c =
     let f = c.args.self.polynomial in
-    changed_placed _ (λ r. multiplicity f.field.polynomial r f.coefficients) c.args.found c.map-2.result (search rules) (search rules) c.map-2.ensures
+    changed_placed _ (λ r. multiplicity f.field.polynomial r f.coefficients) c.args.found c.map-else-found-degree.result (search rules) (search rules) c.map-else-found-degree.ensures
     (λ i y h r. search rules) _ c.requires

@@ -1,16 +1,11 @@
 -- `quartic_roots` meets its contract. Assumes nothing.
 use Rattle.std.proofs.Common.{arith, rules}
 use Rattle.roots.specs.Equation.{from_inverse}
-use Rattle.roots.proofs.Shifting.{quotient_ready, root_ready, shift_ready, first_ready, second_ready, shifted_ready, shifted_units, shifted_others, shifted_room, shifted_roots}
+use Rattle.roots.proofs.Shifting.{root_ready, shift_ready, first_ready, second_ready, shifted_ready, shifted_units, shifted_others, shifted_room, shifted_roots}
 use Rattle.roots.proofs.Equations.{ready}
 use Rattle.roots.proofs.Moving.{count-is, unit_at}
 use Rattle.roots.proofs.ShortLists.{changed_entries}
 use Rattle.roots.proofs.inner.equation.Equation.quartic_roots.Goals as goal
-
-pub quotient-q-requires : goal.quotient-q-requires
-quotient-q-requires c =
-    let P = c.requires in
-    quotient_ready _ _ c.args.self.polynomial.coefficients (search rules) (ready c.args.self) P.0 P.1
 
 pub square_root-s-requires : goal.square_root-s-requires
 square_root-s-requires c =
@@ -59,8 +54,8 @@ with_last-requires c =
     let room = shifted_room _ _ c.args.self.polynomial.coefficients (search rules) (ready c.args.self) P.0 P.1 _ c.quotient-q.ensures _ c.square_root-s.ensures _ _ _ c.product.ensures c.product-2.ensures c.product-3.ensures _ c.solutions-ys.ensures _ moved c.if-l2-ne0.false in
     omega (arith, count-is c.map-others.result (search rules))
 
-pub returns : goal.returns
-returns c =
+pub returns-else-l2-ne0 : goal.returns-else-l2-ne0
+returns-else-l2-ne0 c =
     let P = c.requires in
     let F = c.args.self.polynomial.field in
     let moved = changed_entries _ (from_inverse F.degree F.polynomial c.square_root-s.result) c.solutions-ys.result c.map-others.result (search rules) (search rules) c.map-others.ensures (λ i y h r. search rules) in

@@ -7,11 +7,6 @@ use Rattle.roots.proofs.Equations.{ready}
 use Rattle.roots.proofs.ShortLists.{placed_entries}
 use Rattle.roots.proofs.inner.equation.Equation.roots.Goals as goal
 
-pub solutions-requires : goal.solutions-requires
-solutions-requires c =
-    let f = c.args.self.polynomial.coefficients in
-    ready_as _ _ f _ (as_affine f (search rules) c.if-c3-ne0.false) (ready c.args.self)
-
 pub returns-then-c2-c4-ne0 : goal.returns-then-c2-c4-ne0
 returns-then-c2-c4-ne0 c =
     let f = c.args.self.polynomial.coefficients in

@@ -1,10 +1,7 @@
 -- `degree` meets its contract: from place i on every coefficient is 0. Assumes nothing.
-use Rattle.std.proofs.Common.{arith, rules}
-use Rattle.roots.proofs.Highest.{above_start, above_here, above_next, above_end}
+use Rattle.std.proofs.Common.{arith}
+use Rattle.roots.proofs.Highest.{above_here, above_next, above_end}
 use Rattle.roots.proofs.inner.polynomial.Polynomial.degree.Goals as goal
-
-pub loop-i-init : goal.loop-i-init
-loop-i-init c = (omega arith, above_start _ _ (search rules))
 
 pub returns-then-self-i-ne0 : goal.returns-then-self-i-ne0
 returns-then-self-i-ne0 c = above_here _ _ c.if-self-i-ne0.true c.loop-i.invariant.1
