@@ -1,5 +1,5 @@
 -- Logarithm numbers: "the number of an element is e + 1, where e is the least exponent, from 0 on, with x^e equal to it. It is 0 for an
--- element that is no power of x, zero included" (01). The polynomial x is the element 2. Assumes nothing.
+-- element that is no power of x, zero included". The polynomial x is the element 2. Assumes nothing.
 use Rattle.std.specs.Prelude.{true, false, ℕ, zero, suc, ◌+◌, ◌-◌, ◌^◌, eqb, ltb}
 use Rattle.galois.specs.Power.{power}
 use Rattle.algebra.specs.Search.{first}

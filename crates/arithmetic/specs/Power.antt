@@ -1,4 +1,4 @@
--- "Power takes any signed 32-bit exponent. A negative one is the power of the inverse" (01). Assumes nothing.
+-- "Power takes any signed 32-bit exponent. A negative one is the power of the inverse". Assumes nothing.
 use Rattle.std.specs.Prelude.{ℕ, suc, ℤ, pos, negsuc}
 use Rattle.galois.specs.Power.{power}
 use Rattle.arithmetic.specs.Quotient.{quotient_of}

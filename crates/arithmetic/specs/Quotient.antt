@@ -1,4 +1,4 @@
--- "Quotient a/b is the one element q with q·b = a, for b not 0" (01): the first that is found. Assumes nothing.
+-- "Quotient a/b is the one element q with q·b = a, for b not 0": the first that is found. Assumes nothing.
 use Rattle.std.specs.Prelude.{ℕ, ◌^◌, eqb}
 use Rattle.binary.specs.Product.{product}
 use Rattle.algebra.specs.Search.{first}

@@ -1,4 +1,4 @@
--- "Bit i is the coefficient of x^i" (01): one binary digit of a number. Assumes nothing.
+-- "Bit i is the coefficient of x^i": one binary digit of a number. Assumes nothing.
 use Rattle.std.specs.Prelude.{ℕ, ◌/◌, ◌%◌, ◌^◌}
 
 -- the digit of a at the power 2 ^ k

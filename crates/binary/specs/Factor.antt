@@ -1,4 +1,4 @@
--- The degree of a polynomial, and the test for a proper factor (01, "The field and its elements"). Assumes nothing.
+-- The degree of a polynomial, and the test for a proper factor. Assumes nothing.
 use Rattle.std.specs.Prelude.{ℕ, suc, ◌-◌, ◌/◌, ◌^◌, ◌<◌, ◌≤◌, Bool, not, ◌≢◌, nat_lt}
 use Rattle.algebra.specs.Search.{first, every_below}
 use Rattle.binary.specs.Xor.{Degree}

@@ -1,5 +1,4 @@
--- Arithmetic modulo a polynomial p: "product is the product over GF(2), reduced by the field polynomial" (01, "The field and its
--- elements"). Assumes nothing.
+-- Arithmetic modulo a polynomial p: "product is the product over GF(2), reduced by the field polynomial". Assumes nothing.
 use Rattle.std.specs.Prelude.{ℕ, ◌*◌, ◌≤◌}
 use Rattle.binary.specs.Xor.{Degree}
 use Rattle.binary.specs.Times.{times}

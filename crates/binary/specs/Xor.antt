@@ -1,4 +1,4 @@
--- Polynomials over GF(2) as numbers: bit i is the coefficient of x^i (01, "The field and its elements"). Their sum, and the degree.
+-- Polynomials over GF(2) as numbers: bit i is the coefficient of x^i. Their sum, and the degree.
 -- Assumes nothing.
 use Rattle.std.specs.Prelude.{ℕ, suc, ◌^◌, ◌<◌, ◌≤◌, bit_xor}
 

@@ -8,7 +8,7 @@ ghost use Rattle.arithmetic.specs.Power.{power_of};
 use crate::inner::field::Field;
 
 impl Field {
-    // n factors a, by squaring: one binary digit of n a turn.
+    // n factors a, by squaring: one binary digit of n a turn, until none is left. (A `while`, as it counts nothing.)
     pub fn raised(self, a: u32, n: u32) -> u32
         requires { a < 2 ^ self.degree }
         ensures { result ≡ power self.polynomial a n }
