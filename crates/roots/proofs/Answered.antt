@@ -8,7 +8,7 @@ use Rattle.field.specs.Answers.{field_of}
 use Rattle.field.proofs.Tests.{answered_by}
 use Rattle.field.proofs.Answered.{field_given}
 use Rattle.roots.specs.Limits.{most_coefficients, most_roots}
-use Rattle.roots.specs.Calls.{equation_tests, build_tests, refused_built, solve_answer, build_answer}
+use Rattle.roots.specs.Calls.{build_tests, refused_built, build_answer}
 use Rattle.roots.proofs.Tests.{build_passed}
 
 module _ (p : ℕ) (rs : List ℕ) (f : Field) (e : gives (f.polynomial, f.degree) ≡ outcome (build_tests p rs) (field_of p)) where
