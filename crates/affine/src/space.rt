@@ -1,4 +1,5 @@
-// What an equation that has roots is answered.
+// What an equation that has roots is answered. It is not linear's `Space`, since the base is an element here, and the dimension a number that a
+// caller can hand on.
 ghost use Rattle.std.specs.Prelude.{◌≡◌, ◌≤◌};
 ghost use Rattle.linear.specs.Limits.{places};
 

@@ -55,6 +55,7 @@ impl Run {
     // Reads to the end of the input. The answers to what a read has brought are handed on before the next.
     fn read(&mut self, rt: &HostRuntime) -> Result<(), Stopped> {
         let mut chunk = [0; CHUNK];
+        // No input has as many reads.
         for _ in 0..u64::MAX {
             let n = rt
                 .stdin()

@@ -20,7 +20,7 @@ fn shifted(field: Field, t: u32, n: u32) -> u32
     ensures { result ≡ product field.polynomial t (power field.polynomial 2 n) }
 {
     let mut moved = t;
-    for k in 0..n {
+    for _ in 0..n {
         moved = field.doubled(moved);
     }
     moved

@@ -9,7 +9,7 @@ use crate::inner::kind::Kind;
 use crate::inner::text::AnswerBytes;
 use crate::refused::MALFORMED;
 
-// The first byte of the answer to a malformed line, in place of a kind.
+// The first byte of the answer to a malformed line, in place of a kind: a byte that the answer has, and no kind of the code.
 const NO_KIND: u32 = 255;
 
 pub fn malformed() -> AnswerBytes

@@ -13,7 +13,7 @@ use crate::limits::{ANSWER_ROOM, MOST_DIGITS};
 
 const LINE_FEED: u8 = b'\n';
 
-// The length of every line that is too long: the definitions count no further.
+// The length of every line that is too long: the promised length, at which the definitions stop.
 const TOO_LONG: usize = MOST_DIGITS + 1;
 
 // Where the first line feed stands, if there is one.

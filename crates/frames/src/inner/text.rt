@@ -61,6 +61,7 @@ impl AnswerBytes {
         ensures upper_bound { result ≤ 2 * most_bytes }
         ensures counts { Counts result out.new }
     {
+        // Each number is read once and fills two places.
         for i in 0..self.count {
             out[2 * i] = capital(self.values[i] / 16 % 16);
             out[2 * i + 1] = capital(self.values[i] % 16);

@@ -37,6 +37,7 @@ impl Polynomial {
     {
         let f = self.coefficients;
         let mut sums = f;
+        // Each sum is made of the one above it.
         for i in (0..MOST_COEFFICIENTS - 1).rev() {
             sums[i] = f[i] ^ self.field.product(r, sums[i + 1]);
         }

@@ -7,23 +7,23 @@ use Rattle.galois.specs.Power.{power}
 use Rattle.affine.proofs.Terms.{shift_more}
 use Rattle.affine.proofs.inner.columns.shifted.Goals as goal
 
-pub loop-k-init : goal.loop-k-init
+pub loop-init : goal.loop-init
 unfolding power
-loop-k-init c =
+loop-init c =
     let a = c.args in
     let q = c.requires in
     (omega arith, q, sym (product_one a.field.degree a.field.polynomial a.field.is_field.field.irr.degree a.t q))
 
-pub loop-k-preserved : goal.loop-k-preserved
-loop-k-preserved c =
+pub loop-preserved : goal.loop-preserved
+loop-preserved c =
     let a = c.args in
     let q = c.requires in
-    let l = c.loop-k in
+    let l = c.loop in
     let e = c.doubled-moved.ensures in
-    (omega arith, rw e (times_x_lt a.field.degree a.field.polynomial a.field.is_field.field.irr.degree _), e ∙ shift_more a.field.degree a.field.polynomial a.field.is_field.field a.t l.k l.moved l.invariant.2)
+    (omega arith, rw e (times_x_lt a.field.degree a.field.polynomial a.field.is_field.field.irr.degree _), e ∙ shift_more a.field.degree a.field.polynomial a.field.is_field.field a.t l.counter l.moved l.invariant.2)
 
 pub returns : goal.returns
 returns c =
-    let l = c.loop-k in
-    let e : l.k ≡ c.args.n = omega arith in
+    let l = c.loop in
+    let e : l.counter ≡ c.args.n = omega arith in
     rw e at l.invariant.2
