@@ -14,18 +14,32 @@ use Rattle.galois.specs.Power.{power}
 use Rattle.galois.specs.Polynomial.{value}
 use Rattle.galois.specs.Roots.{roots_of}
 use Rattle.galois.proofs.Power.{mul_lt, power_lt}
-use Rattle.galois.proofs.Polynomial.{coeff_at}
 use Rattle.arithmetic.specs.Quotient.{quotient_of}
 use Rattle.arithmetic.proofs.Quotient.{quotient_lt}
 use Rattle.roots.specs.Limits.{most_roots}
 use Rattle.roots.specs.Equation.{Ready, HoldsRoots, Units, quartic_of, shift, from_inverse}
+use Rattle.roots.specs.declared.inner.equation.Equation.{Equation}
 use Rattle.roots.proofs.Entries.{five_entries}
+use Rattle.roots.proofs.Equations.{ready}
 use Rattle.roots.proofs.Completing.{positive}
 use Rattle.roots.proofs.Quartic.{at_shift, quartic_ready, quartic_units, quartic_others, quartic_roots, quartic_room}
 
-module _ (m p : ℕ) (f : List ℕ) (five : length f ≡ 5) (R : Ready m p f) (n3 : get_or f 3 0 ≢ 0) (n4 : get_or f 4 0 ≢ 0) where
+module _ (E : Equation) (five : length E.polynomial.coefficients ≡ 5) (n3 : get_or E.polynomial.coefficients 3 0 ≢ 0)
+    (n4 : get_or E.polynomial.coefficients 4 0 ≢ 0) where
+  abbrev m : ℕ
+  m = E.polynomial.field.degree
+
+  abbrev p : ℕ
+  p = E.polynomial.field.polynomial
+
+  abbrev f : List ℕ
+  f = E.polynomial.coefficients
+
+  R : Ready m p f
+  R = ready E
+
   small : (i : ℕ) → get_or f i 0 < 2 ^ m
-  small i = coeff_at m f i R.small
+  small = E.polynomial.small
 
   module _ (q : ℕ) (eq : q ≡ quotient_of m p (get_or f 1 0) (get_or f 3 0)) where
     pub root_ready : q < 2 ^ m
