@@ -1,5 +1,4 @@
 // The three calls of `affine` beside what the search and the program's own tests say.
-use crate::answers;
 use crate::equation::Equation;
 use affine::RootSpace;
 use std::alloc::{AllocError, Global};
@@ -52,7 +51,7 @@ fn listing_agrees(
     let count = listed.map(|roots| roots.len()).map_err(Refusal::number);
     let rest = list.strip_prefix(roots);
     Ok(
-        answers::count(answer) == count
+        answer.map(|n| n as usize).map_err(field::Refusal::number) == count
             && rest.is_some_and(|rest| rest.iter().all(|x| *x == FILLING)),
     )
 }
@@ -80,7 +79,8 @@ fn root_at_place(expected: Expected<'_>, n: u32) -> Result<u32, Refusal> {
 
 fn place_agrees(equation: &Equation<'_>, expected: Expected<'_>, n: u32) -> bool {
     let answer = affine::root_at_place(equation.field.polynomial, equation.coefficients, n);
-    answers::element(answer) == root_at_place(expected, n).map_err(Refusal::number)
+    let said = answer.map(|x| x.0).map_err(field::Refusal::number);
+    said == root_at_place(expected, n).map_err(Refusal::number)
 }
 
 // How many places were compared, if none differs: those of the roots, the one after the last, and the largest number. From the last place

@@ -1,7 +1,6 @@
 // Compares the three calls of `affine` with a search over all elements, and prints what was compared.
 #![tactic(auto)]
 
-mod answers;
 mod chosen;
 mod compare;
 mod counts;

@@ -15,6 +15,7 @@ pub enum Kind {
 }
 
 impl Kind {
+    // A name for its number, as a refusal's.
     pub fn number(self) -> u8 {
         self as u8
     }

@@ -10,6 +10,7 @@ pub enum Refusal {
 }
 
 impl Refusal {
+    // A name for its number, which `map` takes too.
     pub fn number(self) -> u8 {
         self as u8
     }

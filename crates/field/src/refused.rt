@@ -14,7 +14,7 @@ pub enum Refusal {
 }
 
 impl Refusal {
-    // Its number in the table.
+    // Its number in the table: a name for it, which `map_err` takes too. (A `From` would promise no more.)
     pub fn number(self) -> u32
         ensures { result ≡ number_of self }
     {

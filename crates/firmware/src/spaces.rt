@@ -51,10 +51,7 @@ fn put_solved(
     ensures space_after { space.new ≡ after (status result) (space_values (of_affine answer).says (of_affine answer).base) space.old }
     ensures directions_after { directions.new ≡ after (status result) (of_affine answer).directions directions.old }
 {
-    match answer {
-        Ok(roots) => put_space(roots, space, directions),
-        Err(refusal) => Err(refusal),
-    }
+    put_space(answer?, space, directions)
 }
 
 // All roots, as base and directions: found or not, k and the base in one list, the directions in the other.

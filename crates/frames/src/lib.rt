@@ -19,7 +19,7 @@ use crate::inner::stream::first_feed;
 use crate::limits::{ANSWER_ROOM, MOST_DIGITS};
 
 // A line that has begun: how many bytes it has so far, and the first 1,030 of them. Of a longer line, which is malformed whatever it holds,
-// no more is kept, and the length stays at 1,031.
+// no more is kept, and the length stays at 1,031. (An array and its count, since nothing is taken from the heap.)
 #[derive(Debug, Clone, Copy)]
 pub struct OpenLine {
     pub length: usize,

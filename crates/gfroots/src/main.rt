@@ -42,7 +42,7 @@ impl Run {
         Ok(progress.taken)
     }
 
-    // Call after call, until the chunk is used up.
+    // Call after call, until the chunk is used up. (No index: each call says how much it took.)
     fn take(&mut self, rt: &HostRuntime, chunk: &[u8]) -> Result<(), Stopped> {
         let mut rest = chunk;
         while !rest.is_empty() {

@@ -15,7 +15,7 @@ use crate::limits::{MOST_COEFFICIENTS, MOST_ROOTS};
 use field::Refusal;
 
 // The number of different roots, or why the equation is turned down. The roots, ascending, stand first in their places, each with its
-// multiplicity in the same place; unused places are 0.
+// multiplicity in the same place; unused places are 0. The scope names this form: the arrays stand beside the Result.
 #[derive(Clone, Copy, Debug, PartialEq, Eq)]
 pub struct RootsAnswer {
     pub count: Result<u32, Refusal>,

@@ -1,7 +1,7 @@
 // The two calls of `roots` beside what the search and the program's own tests say.
 use crate::polynomial::Polynomial;
+use crate::search;
 use crate::search::Root;
-use crate::{answers, search};
 use roots::RootsAnswer;
 use std::alloc::{AllocError, Global};
 use trial::inner::plain::Field;
@@ -24,7 +24,11 @@ pub fn solve_agrees(
 ) -> bool {
     let answer = roots::solve(field.polynomial, coefficients);
     let count = expected.map(|found| found.len()).map_err(Refusal::number);
-    answers::count(answer.count) == count && roots_agree(&answer, expected.unwrap_or(&[]))
+    let said = answer
+        .count
+        .map(|n| n as usize)
+        .map_err(field::Refusal::number);
+    said == count && roots_agree(&answer, expected.unwrap_or(&[]))
 }
 
 // Whether `build` gives the product over the list, or turns the call down for what it is to be; and then whether `solve` gives the list's

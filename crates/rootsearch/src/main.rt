@@ -1,7 +1,6 @@
 // Compares the two calls of `roots` with a search over all elements, and prints what was compared.
 #![tactic(auto)]
 
-mod answers;
 mod calls;
 mod compare;
 mod counts;

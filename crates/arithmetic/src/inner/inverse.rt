@@ -17,6 +17,7 @@ impl Field {
         let mut v = self.polynomial;
         let mut g: u32 = 1;
         let mut h: u32 = 0;
+        // No index: the turns end with u.
         while u != 1 {
             // A choice of values, and no swap in place: so the compiler makes no branch of it.
             let (high, low, above, below) = if u < v { (v, u, h, g) } else { (u, v, g, h) };

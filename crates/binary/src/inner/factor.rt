@@ -29,6 +29,7 @@ impl Modulus {
             return false;
         }
         let mut candidates = Block::lowest();
+        // No index: each block is made of the one before it.
         while candidates.first < limit {
             if self.has_divisor_in(candidates) {
                 return false;

@@ -77,7 +77,8 @@ fn any_too_large(field: Field, coefficients: &[u32]) -> bool
     false
 }
 
-// A list of coefficients: turned down where their count is wrong, or one of them is no element.
+// A list of coefficients: turned down where their count is wrong, or one of them is no element. (Which counts are
+// wrong each call says for itself.)
 pub fn of_list(field: Field, wrong: bool, coefficients: &[u32]) -> Result<(), Refusal>
     ensures { of_nothing result ≡ outcome (list_tests field.polynomial wrong coefficients.now) tt }
 {

@@ -5,7 +5,7 @@ ghost use Rattle.firmware.specs.Lent.{fits, status, returned, after, value_of, r
 
 use field::{Element, LogNumber, Refusal};
 
-// A value that C takes as one word.
+// A value that C takes as one word. (No From<Element> for u32: the element is the field's, and so would the impl and its law be.)
 pub trait Word {
     ghost of_word: { Self → ℕ };
 
@@ -64,10 +64,7 @@ pub fn put_answer<W: Word>(answer: Result<W, Refusal>, list: &mut [u32]) -> Resu
     ensures value { status result ≡ returned (of_answer W.of_word answer) (fits 1 list.old) }
     ensures list_after { list.new ≡ after (status result) (value_of (of_answer W.of_word answer)) list.old }
 {
-    match answer {
-        Ok(value) => put(value.word(), list),
-        Err(refusal) => Err(refusal),
-    }
+    put(answer?.word(), list)
 }
 
 // Values at the front of a list; what stands after them stays.

@@ -30,7 +30,8 @@ fn solved(count: u32, roots: [u32; MOST_ROOTS], multiplicities: [u32; MOST_ROOTS
     bytes
 }
 
-// Found or not, k, the base and the directions.
+// Found or not, k, the base and the directions: the bytes of an answer to the affine kind. (`found` is a byte of it; 0 stands for each
+// number where there is no root.)
 fn space(found: bool, k: u32, base: u32, directions: [u32; PLACES]) -> AnswerBytes
     requires { k ≤ places }
     ensures { result ≡ 2 ∷ 0 ∷ found_byte found ∷ k ∷ element_bytes base ++ up_to (direction_bytes directions) k }

@@ -10,13 +10,14 @@ pub enum Kind {
 }
 
 impl Kind {
+    // (A derive would promise nothing of the number.)
     pub fn byte(self) -> u32
         ensures { result ≡ kind_byte self }
     {
         self as u32
     }
 
-    // The kind that a byte stands for, if any.
+    // The kind that a byte stands for, if any. (As TryFrom it would have to name an error, where there is one way to fail.)
     pub fn of_byte(byte: u32) -> Option<Kind>
         ensures { MatchOption result (NoKind byte) (λ kind. kind_byte kind ≡ byte) }
     {

@@ -9,6 +9,7 @@ use crate::limits::{ANSWER_ROOM, MOST_BYTES};
 use std::marker::Model;
 
 // Each function sees them as a list that grows. The calls answer with u32; that each value is below 256 is a theorem (`bytes_fit`).
+// (An array and its count, since nothing is taken from the heap.)
 #[derive(Drop)]
 pub struct AnswerBytes {
     values: [u32; MOST_BYTES],

@@ -65,6 +65,7 @@ impl Reduced {
         let base = self.column(self.unknowns);
         let pivots = self.pivot_columns();
         let mut directions = [0; PLACES];
+        // The place of the next direction, which is no index of the loop.
         let mut count: usize = 0;
         for t in 0..self.unknowns {
             if bit(pivots, t) == 0 {

@@ -7,7 +7,8 @@ ghost use Rattle.linear.specs.Directions.{choose};
 use crate::inner::elimination::PLACES;
 use binary::inner::digit::{picked, power_of_two};
 
-// The solutions are the base combined by exclusive or with each choice of the count directions, which stand first in their places.
+// The solutions are the base combined by exclusive or with each choice of the count directions, which stand first in their places. (An array
+// and its count, since nothing is taken from the heap; unused places are promised to be 0.)
 #[derive(Clone, Copy, Debug, PartialEq, Eq)]
 pub struct Space {
     pub base: u32,

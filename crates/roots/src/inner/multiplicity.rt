@@ -46,6 +46,7 @@ impl Polynomial {
         requires { AllZero self.coefficients → ⊥ }
         ensures { IsDegree result self.coefficients }
     {
+        // The place is the answer, so it is counted.
         for i in (1..MOST_COEFFICIENTS).rev() {
             if self.coefficients[i] != 0 {
                 return i;

@@ -35,6 +35,7 @@ impl Field {
         let mut sum = 0;
         let mut moved = a;
         let mut rest = b;
+        // No index: the bits of b are used up.
         while rest != 0 {
             if rest % 2 == 1 {
                 sum ^= moved;

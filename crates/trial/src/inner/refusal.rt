@@ -14,6 +14,7 @@ pub enum Refusal {
 }
 
 impl Refusal {
+    // A name for its number, which `map_err` takes too.
     pub fn number(self) -> u32 {
         self as u32
     }
