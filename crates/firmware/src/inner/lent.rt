@@ -5,7 +5,7 @@ ghost use Rattle.firmware.specs.Lent.{fits, status, returned, after, value_of, r
 
 use field::{Element, LogNumber, Refusal};
 
-// A value that C takes as one word. (No From<Element> for u32: the element is the field's, and so would the impl and its law be.)
+// A value that C takes as one word. (No From<Element> for u32: its impls would stand in the crate `field`, for the calls of C alone.)
 pub trait Word {
     ghost of_word: { Self → ℕ };
 
