@@ -5,9 +5,7 @@ use mir.Syntax.{w32}
 use mir.Val.{SFits}
 use mir.Facts.{to_z-of_z}
 use Rattle.std.specs.Int.Signed.{lt_z}
-use Rattle.arithmetic.specs.Power.{power_of}
-use Rattle.field.specs.Refusal.{element_tests}
-use Rattle.field.proofs.Answered.{element_in, last_applies, last_passes}
+use Rattle.field.proofs.Answered.{element_in}
 use Rattle.field.proofs.power.Goals.{Joined-else-a-eq0, else-a-eq0-via-then-a-eq0+else-e-lt0, else-a-eq0-via-else-a-eq0}
 use Rattle.field.proofs.power.Goals as goal
 
@@ -24,13 +22,6 @@ other a e n = rw n (both (eqb a 0))
 
 nonzero : (a : ℕ) (e : ℤ) → a ≢ 0 → (eqb a 0 && lt_z e (pos 0)) ≡ false
 nonzero a e q = rw (ne_eqb a 0 q)
-
-pub returns-then-e-lt0 : goal.returns-then-e-lt0
-returns-then-e-lt0 c =
-    let a = c.args in
-    let f : SFits w32 a.e.0 = search rules in
-    last_applies a.p c.in_ok-field.field (element_tests a.p a.a.0) c.in_ok-field.ensures tt (eqb a.a.0 0 && lt_z a.e.0 (pos 0)) 6
-    (negative a.a.0 a.e.0 c.if-a-eq0.true (rw (to_z-of_z f) at c.if-e-lt0.true)) (λ z. omega arith) _
 
 -- neither 0 nor to a negative exponent
 passes : (c : Joined-else-a-eq0) → (eqb c.args.a.0 0 && lt_z c.args.e.0 (pos 0)) ≡ false
@@ -51,10 +42,3 @@ power-requires c =
     let a = c.args in
     let f : SFits w32 a.e.0 = search rules in
     (element_in a.p c.in_ok-field.field a.a.0 c.in_ok-field.ensures, λ n. above a.a.0 a.e.0 (passes c.before.before) (rw (to_z-of_z f) at n))
-
-pub returns : goal.returns
-returns c =
-    let a = c.args in
-    let f : SFits w32 a.e.0 = search rules in
-    last_passes a.p c.in_ok-field.field (element_tests a.p a.a.0) c.in_ok-field.ensures tt (eqb a.a.0 0 && lt_z a.e.0 (pos 0)) 6
-    (passes c.before.before) (λ (m p : ℕ). power_of m p a.a.0 a.e.0) (rw (to_z-of_z f) at c.power.ensures)

@@ -1,13 +1,11 @@
 -- `put_answer` meets its contract. Assumes nothing.
 use Rattle.std.proofs.Common.{ap, ◌∙◌, ℕ, List, length, arith, refl}
 use Rattle.std.proofs.lemmas.List.Edits.{sets}
-use lib.ListN.{length-set}
-use lib.Seq.{length-sets}
 use Rattle.frames.specs.Text.{text}
 use Rattle.frames.specs.Answer.{answer_bytes, answer_text}
 use Rattle.frames.specs.Stream.{line_feed, held, answer_line}
 use Rattle.frames.proofs.Writing.{text-length, put_last}
-use Rattle.frames.proofs.Fitting.{line_length, counts_within}
+use Rattle.frames.proofs.Fitting.{line_length}
 use Rattle.frames.proofs.OpenLine.put_answer.Goals as goal
 
 pub returns-clause-value : goal.returns-clause-value
@@ -22,9 +20,3 @@ returns-clause-out_after c =
     let e = c.put_text-end.ensures in
     let t = ap text c.answer.ensures in
     put_last _ _ _ line_feed (e.value ∙ ap length t) (e.out_after ∙ ap (sets c.args.out.now 0) t)
-
-pub returns-clause-counts : goal.returns-clause-counts
-returns-clause-counts c =
-    let e = c.put_text-end.ensures in
-    let out = c.put_text-end.new.out in
-    counts_within _ _ (omega (arith, length-set out c.put_text-end.result line_feed, ap length e.out_after, length-sets c.args.out.now 0 (text c.answer.result)))

@@ -1,7 +1,7 @@
 -- `columns_of` meets its contract. Assumes nothing.
 use Rattle.std.proofs.Common.{arith, rules}
 use Rattle.galois.proofs.Polynomial.{coeff_at}
-use Rattle.affine.proofs.Terms.{terms_start, terms_turn, terms_end, step_lt}
+use Rattle.affine.proofs.Terms.{terms_start, terms_turn, step_lt}
 use Rattle.affine.proofs.inner.columns.columns_of.Goals as goal
 
 pub loop-i-init : goal.loop-i-init
@@ -24,6 +24,3 @@ pub loop-i-preserved : goal.loop-i-preserved
 loop-i-preserved c =
     let l = c.loop-i in
     terms_turn _ _ c.args.field.is_field.field _ l.columns _ l.step l.i _ (omega arith) (search rules) c.with_term-next.ensures c.product-step.ensures l.invariant
-
-pub returns : goal.returns
-returns c = terms_end _ _ _ _ c.loop-i.step c.loop-i.i (omega arith) c.loop-i.invariant

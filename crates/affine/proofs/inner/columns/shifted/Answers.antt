@@ -1,5 +1,5 @@
 -- `shifted` meets its contract. Assumes nothing.
-use mathlib.Core.Path.{◌≡◌, sym, ◌∙◌}
+use mathlib.Core.Path.{sym, ◌∙◌}
 use native.Mathlib.Omega.{arith}
 use Rattle.binary.proofs.Product.{product_one}
 use Rattle.binary.proofs.Modulus.{times_x_lt}
@@ -21,9 +21,3 @@ loop-preserved c =
     let l = c.loop in
     let e = c.doubled-moved.ensures in
     (omega arith, rw e (times_x_lt a.field.degree a.field.polynomial a.field.is_field.field.irr.degree _), e ∙ shift_more a.field.degree a.field.polynomial a.field.is_field.field a.t l.counter l.moved l.invariant.2)
-
-pub returns : goal.returns
-returns c =
-    let l = c.loop in
-    let e : l.counter ≡ c.args.n = omega arith in
-    rw e at l.invariant.2

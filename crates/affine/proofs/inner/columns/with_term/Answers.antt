@@ -9,9 +9,6 @@ use Rattle.affine.proofs.inner.columns.with_term.Goals as goal
 pub loop-column-init : goal.loop-column-init
 loop-column-init c = term_start _ _ c.args.field.is_field.field _ _ _ c.requires.1
 
-pub stepped-t-requires : goal.stepped-t-requires
-stepped-t-requires c = (c.loop-column.invariant.small, c.requires.2)
-
 pub loop-column-preserved : goal.loop-column-preserved
 loop-column-preserved c =
     let l = c.loop-column in

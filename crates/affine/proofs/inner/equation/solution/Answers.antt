@@ -1,40 +1,12 @@
 -- `solution` meets its contract. Assumes nothing.
 use mathlib.Core.Path.{sym, ap, ◌∙◌}
 use Prim.Native.Nat.{ℕ}
-use borrow.Author.Rules.{rules}
 use Rattle.linear.specs.Solution.{solution_by}
 use Rattle.affine.specs.Equation.{is_root, is_direction, solution_of}
 use Rattle.binary.proofs.Factor.{degree_is}
-use Rattle.affine.proofs.Tests.{part_is, part_ready}
+use Rattle.affine.proofs.Tests.{part_is}
 use Rattle.affine.proofs.Matrix.{matrix_solution}
 use Rattle.affine.proofs.inner.equation.solution.Goals as goal
-
-pub slice_bounds-columns_of-count : goal.slice_bounds-columns_of-count
-slice_bounds-columns_of-count c =
-    let some = c.requires.some in
-    search rules
-
-pub slice_bounds-columns_of-start : goal.slice_bounds-columns_of-start
-slice_bounds-columns_of-start c =
-    let some = c.requires.some in
-    search rules
-
-pub columns_of-columns-requires : goal.columns_of-columns-requires
-columns_of-columns-requires c =
-    let R = c.requires in
-    let q = part_ready _ _ _ R in
-    (R.largest, q.0, q.1)
-
-pub bounds-coefficients-0 : goal.bounds-coefficients-0
-bounds-coefficients-0 c =
-    let some = c.requires.some in
-    search rules
-
-pub rows_of-rows-requires : goal.rows_of-rows-requires
-rows_of-rows-requires c = c.requires.largest
-
-pub solved-requires : goal.solved-requires
-solved-requires c = c.requires.largest
 
 pub returns : goal.returns
 unfolding solution_of

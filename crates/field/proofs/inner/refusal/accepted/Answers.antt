@@ -24,12 +24,6 @@ returns-then-p-lt-POLYNOMIAL_FLOOR c =
       | then-p-lt-POLYNOMIAL_FLOOR-via-else-p-lt-POLYNOMIAL_FLOOR+then-p-ge-POLYNOMIAL_CEILING w ↦ out c.args.p (too_high c.args.p w.if-p-ge-POLYNOMIAL_CEILING.true)
     ]
 
-pub new-modulus-requires : goal.new-modulus-requires
-new-modulus-requires c = (omega arith, omega arith)
-
-pub new-requires : goal.new-requires
-new-requires c = sym c.factor_free.ensures ∙ c.if-factor_free.true
-
 pub returns-then-factor_free : goal.returns-then-factor_free
 returns-then-factor_free c =
     let q = c.new-modulus.ensures in

@@ -1,15 +1,12 @@
 -- `coefficients_of` meets its contract. Assumes nothing.
 use Rattle.std.proofs.Common.{◌∙◌, arith}
-use Rattle.algebra.proofs.Filled.{filled_none, filled_put}
+use Rattle.algebra.proofs.Filled.{filled_put}
 use Rattle.algebra.proofs.Places.{filled_padded}
 use Rattle.frames.specs.Limits.{most_counted}
 use Rattle.frames.specs.Frame.{coefficients_of}
 use Rattle.frames.proofs.Digits.{digits_join}
 use Rattle.frames.proofs.Coefficients.{coefficient_count, coefficient_is}
 use Rattle.frames.proofs.inner.frame.coefficients_of.Goals as goal
-
-pub loop-i-init : goal.loop-i-init
-loop-i-init c = record { filled = filled_none _ _; digits = record { each = λ j h k. absurd (omega arith) } }
 
 pub loop-i-preserved : goal.loop-i-preserved
 loop-i-preserved c =
