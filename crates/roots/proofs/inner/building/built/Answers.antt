@@ -1,8 +1,7 @@
 -- `built` meets its contract: the roots from place i on are in. Assumes nothing.
-use Rattle.std.proofs.Common.{sym, ap, ◌∙◌, subst, arith, rules, ◌-◌, ◌<◌, ◌^◌, ◌++◌, take, drop, suc, get_or, length}
+use Rattle.std.proofs.Common.{ap, ◌∙◌, arith, ◌-◌, ◌++◌, take, drop, suc, get_or, length}
 use Rattle.arithmetic.specs.declared.inner.field.Field.{Field}
 use Rattle.galois.specs.Polynomial.{with_root}
-use Rattle.galois.proofs.Polynomial.{coeff_at}
 use Rattle.roots.proofs.FromRoots.{building_start, building_next, building_end}
 use Rattle.roots.proofs.inner.building.built.Goals as goal
 
@@ -10,12 +9,6 @@ pub loop-i-init : goal.loop-i-init
 loop-i-init c =
     let q = c.one-f.ensures in
     (q.field, building_start _ _ _ q.coefficients c.requires.0)
-
-pub with_root-f-requires : goal.with_root-f-requires
-with_root-f-requires c =
-    let l = c.loop-i in
-    let P = c.requires in
-    (search rules, subst (λ (k : Field). get_or c.args.roots.now (l.i - 1) 0 < 2 ^ k.degree) (sym l.invariant.0) (coeff_at _ c.args.roots.now _ P.1))
 
 pub loop-i-preserved : goal.loop-i-preserved
 loop-i-preserved c =

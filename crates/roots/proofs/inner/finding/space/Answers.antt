@@ -17,13 +17,6 @@ returns-then-field-eq-FOLDED c =
     c.solution.ensures
     ∙ sym (ap (solution_of a.field.polynomial) (folded_short a.field.degree a.c a.l0 a.l1 a.l2 c.if-field-eq-FOLDED.true))
 
-pub solution-requires-else-field-eq-FOLDED : goal.solution-requires-else-field-eq-FOLDED
-solution-requires-else-field-eq-FOLDED c =
-    let a = c.args in
-    let P = c.requires in
-    subst (Ready a.field.degree a.field.polynomial) (folded_long a.field.degree a.c a.l0 a.l1 a.l2 c.if-field-eq-FOLDED.false)
-    (folded_ready _ _ _ _ _ _ a.field.is_field P.0 P.1)
-
 pub returns-else-field-eq-FOLDED : goal.returns-else-field-eq-FOLDED
 returns-else-field-eq-FOLDED c =
     let a = c.args in

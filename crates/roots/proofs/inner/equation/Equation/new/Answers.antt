@@ -1,5 +1,5 @@
 -- `new` meets its contract. Assumes nothing.
-use Rattle.std.proofs.Common.{refl, sym}
+use Rattle.std.proofs.Common.{sym}
 use Rattle.binary.proofs.Factor.{degree_is}
 use Rattle.galois.proofs.Polynomial.{coeff_at}
 use Rattle.roots.proofs.Tests.{equation_passed, padded_ready}
@@ -17,6 +17,3 @@ pub invariant_of-result : goal.invariant_of-result
 invariant_of-result c =
     let R = padded_ready _ _ _ _ c.requires (sym (degree_is _ _ c.args.field.is_field.modulus.degree)) c.five-coefficients.ensures in
     record { largest = R.largest; nonzero = R.nonzero }
-
-pub returns : goal.returns
-returns c = record { field = refl; coefficients = c.five-coefficients.ensures }

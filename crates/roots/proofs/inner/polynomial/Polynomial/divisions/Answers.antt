@@ -1,5 +1,5 @@
 -- `divisions` meets its contract: k divisions are done, and those still to come make up the multiplicity. Assumes nothing.
-use Rattle.std.proofs.Common.{◌≡◌, refl, sym, ap, ◌∙◌, subst, arith, rules, ◌<◌, ◌^◌, [], ◌∷◌, ◌++◌}
+use Rattle.std.proofs.Common.{◌≡◌, refl, sym, ap, ◌∙◌, arith, rules, [], ◌∷◌, ◌++◌}
 use Rattle.arithmetic.specs.declared.inner.field.Field.{Field}
 use Rattle.galois.specs.Polynomial.{value, without_root}
 use Rattle.roots.proofs.Counting.{counting_start, counting_stop, counting_next, counting_end}
@@ -7,10 +7,6 @@ use Rattle.roots.proofs.inner.polynomial.Polynomial.divisions.Goals as goal
 
 pub loop-k-init : goal.loop-k-init
 loop-k-init c = (refl, counting_start _ _ _)
-
-pub divided-remainder-requires : goal.divided-remainder-requires
-divided-remainder-requires c =
-    subst (λ (f : Field). c.args.r < 2 ^ f.degree) (sym c.loop-k.invariant.0) c.requires
 
 pub returns-then-remainder-ne0 : goal.returns-then-remainder-ne0
 returns-then-remainder-ne0 c =
