@@ -3,21 +3,6 @@ use Rattle.std.proofs.Common.{ℕ, get_or, ◌∙◌, arith}
 use Rattle.binary.proofs.Block.{beside_start, beside_turn, beside_end}
 use Rattle.binary.proofs.inner.block.some_divides.Goals as goal
 
-pub raised-raised-requires : goal.raised-raised-requires
-raised-raised-requires c = omega (arith, c.requires.fits, c.requires.most)
-
-pub overflow_sub-rests : goal.overflow_sub-rests
-overflow_sub-rests c = omega (arith, c.requires.fits)
-
-pub overflow_shl-rests : goal.overflow_shl-rests
-overflow_shl-rests c = omega (arith, c.requires.fits)
-
-pub overflow_step : goal.overflow_step
-overflow_step c = omega (arith, c.requires.fits)
-
-pub overflow_sub-end : goal.overflow_sub-end
-overflow_sub-end c = omega (arith, c.requires.fits, c.requires.most)
-
 pub loop-init : goal.loop-init
 loop-init c =
     let D = c.requires in

@@ -1,14 +1,12 @@
 -- `column` meets its contract. Assumes nothing.
-use mathlib.Core.Path.{◌≡◌, refl, sym, ap, ap₂, ◌∙◌, subst}
+use mathlib.Core.Path.{refl, sym, ap, ap₂, ◌∙◌}
 use mathlib.Core.List.{[], ◌∷◌}
-use Prim.Native.Nat.{ℕ, ◌*◌, ◌^◌, ◌<◌}
-use native.Mathlib.Omega.{arith}
+use Prim.Native.Nat.{ℕ, ◌*◌, ◌^◌}
 use borrow.Author.Rules.{rules}
 use lib.ListN.{length, length-append}
-use Rattle.std.proofs.lemmas.Slice.Zip.{zip_turn, zip_end}
+use Rattle.std.proofs.lemmas.Slice.Zip.{zip_turn}
 use Rattle.binary.specs.Bit.{bit}
 use Rattle.binary.proofs.Bit.{bit_lt}
-use Rattle.linear.specs.Limits.{places}
 use Rattle.linear.specs.Reading.{column}
 use Rattle.linear.specs.Values.{state}
 use Rattle.linear.proofs.Reading.{column_more}
@@ -21,14 +19,6 @@ loop-row-init c = refl
 pub picked-sum-requires : goal.picked-sum-requires
 picked-sum-requires c = rw c.bit.ensures (bit_lt _ _)
 
-pub power_of_two-requires : goal.power_of_two-requires
-power_of_two-requires c =
-    let s = c.args.self.now in
-    let l = c.loop-row in
-    let t = zip_turn s.rows s.marks l.yielded _ _ c.next.new.self _ (search rules) (search rules) l.yielded_by _ c.in-Some.is c.next.ensures.steps in
-    let long : length s.marks ≡ places = search rules in
-    subst (λ (mark : ℕ). mark < 32) (sym (t.3 0)) (s.marks_fit (length l.yielded) (omega (arith, t.1, long)))
-
 pub loop-row-preserved : goal.loop-row-preserved
 loop-row-preserved c =
     let s = c.args.self.now in
@@ -38,13 +28,3 @@ loop-row-preserved c =
     (c.picked-sum.ensures
     ∙ ap₂ ◌*◌ (c.bit.ensures ∙ ap (bit c.args.f) (t.2 0)) (c.power_of_two.ensures ∙ ap (λ (k : ℕ). 2 ^ k) (t.3 0)))
     ∙ ap (column (state s) c.args.f) (sym (length-append l.yielded ((c.in-Some.row, c.in-Some.mark) ∷ [])))
-
-pub returns : goal.returns
-returns c =
-    let s = c.args.self.now in
-    let l = c.loop-row in
-    let e = zip_end s.rows s.marks l.yielded _ _ c.next.new.self _ (search rules) (search rules) l.yielded_by c.in-None.is c.next.ensures.steps in
-    let rows_long : length s.rows ≡ places = search rules in
-    let marks_long : length s.marks ≡ places = search rules in
-    let all : length l.yielded ≡ places = omega (arith, e, rows_long, marks_long) in
-    rw all at l.invariant

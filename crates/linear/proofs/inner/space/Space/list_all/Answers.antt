@@ -6,7 +6,7 @@ use lib.ListN.{length}
 use lib.Seq.{length-take-le, get_or-take}
 use borrow.Author.Rules.{rules}
 use Rattle.linear.specs.Limits.{places}
-use Rattle.linear.proofs.Doubling.{listing_start, listing_turn, listing_room, listing_end}
+use Rattle.linear.proofs.Doubling.{listing_start, listing_turn, listing_room}
 use Rattle.linear.proofs.inner.space.Space.list_all.Goals as goal
 
 pub loop-direction-init : goal.loop-direction-init
@@ -28,10 +28,3 @@ loop-direction-preserved c =
     let left : l.direction-index < s.count = omega (arith, length-take-le s.count s.directions room) in
     listing_turn l.invariant _ _ left room
     (get_or-take s.count s.directions l.direction-index 0 left) d.auto.list d.ensures
-
-pub returns : goal.returns
-returns c =
-    let s = c.args.self.now in
-    let long : length s.directions ≡ places = search rules in
-    listing_end _ _ _ _ _ _ c.loop-direction.direction-index _ c.loop-direction.invariant
-    (omega (arith, length-take-le s.count s.directions (omega (arith, long, s.few))))
