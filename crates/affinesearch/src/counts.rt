@@ -1,4 +1,4 @@
-// What has been counted so far.
+// What has been counted so far. (`rootsearch` counts other things: one type of both would be a list of numbers beside a list of names.)
 use std::fmt;
 use trial::inner::count::Count;
 
