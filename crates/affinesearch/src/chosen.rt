@@ -1,6 +1,6 @@
 // Chosen equations of the fields of degree 16, and some calls there that are to be turned down.
-use crate::equation::Equation;
-use std::alloc::{AllocError, Global};
+use crate::equation::{Equation, ROOM};
+use arrayvec::ArrayVec;
 use trial::inner::plain::Field;
 
 // The constant, none for one with which ROOT is a root, and l0, l1 and so on.
@@ -41,14 +41,16 @@ pub const EQUATIONS: [Chosen; 16] = [
 ];
 
 impl Chosen {
-    pub fn coefficients(&self, field: Field, alloc: Global) -> Result<Vec<u32>, AllocError> {
-        let mut list = vec![in alloc; 0]?;
-        list.extend_from_slice(self.1)?;
+    // They find room: no equation has more than eighteen. Of one with too many only the constant would be left, and the counts would show it.
+    pub fn coefficients(&self, field: Field) -> ArrayVec<u32, ROOM> {
+        let mut list = ArrayVec::new();
+        list.push(0);
+        let _ = list.try_extend_from_slice(self.1);
         let linear = Equation {
             field,
             coefficients: &list,
         };
         list[0] = self.0.unwrap_or(linear.linear(ROOT));
-        Ok(list)
+        list
     }
 }

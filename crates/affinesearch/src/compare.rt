@@ -1,14 +1,13 @@
 // The three calls of `affine` beside what the search and the program's own tests say.
-use crate::equation::Equation;
+use crate::equation::{ELEMENTS, Equation};
 use affine::RootSpace;
-use std::alloc::{AllocError, Global};
 use trial::inner::refusal::Refusal;
 
 // The roots, ascending, or why the call is to be turned down.
 pub type Expected<'a> = Result<&'a [u16], Refusal>;
 
-// No field has more elements, and so no list more roots.
-const ELEMENTS: usize = 65536;
+// The length of the list that is lent: all elements, and eight entries to spare.
+pub const ENTRIES: usize = 65544;
 
 // What a lent list is filled with before a call.
 const FILLING: u16 = 43690;
@@ -33,42 +32,36 @@ fn solve_agrees(equation: &Equation<'_>, expected: Expected<'_>) -> bool {
     }
 }
 
-// A listing into a list with so much room, filled before: it is to hold the roots, and the filling after them; one that is too short for the
-// roots stays as it was.
-fn listing_agrees(
-    equation: &Equation<'_>,
-    expected: Expected<'_>,
-    room: usize,
-    alloc: Global,
-) -> Result<bool, AllocError> {
-    let mut list = vec![in alloc; FILLING; room]?;
-    let answer = affine::list_roots(equation.field.polynomial, equation.coefficients, &mut list);
+// A listing into the whole of a list, filled before: it is to hold the roots, and the filling after them; one that is too short for the roots
+// stays as it was.
+fn listing_agrees(equation: &Equation<'_>, expected: Expected<'_>, list: &mut [u16]) -> bool {
+    list.fill(FILLING);
+    let answer = affine::list_roots(equation.field.polynomial, equation.coefficients, list);
     let listed = match expected {
-        Ok(roots) if room < roots.len() => Err(Refusal::NoPlace),
+        Ok(roots) if list.len() < roots.len() => Err(Refusal::NoPlace),
         _ => expected,
     };
     let roots = listed.unwrap_or(&[]);
     let count = listed.map(|roots| roots.len()).map_err(Refusal::number);
     let rest = list.strip_prefix(roots);
-    Ok(
-        answer.map(|n| n as usize).map_err(field::Refusal::number) == count
-            && rest.is_some_and(|rest| rest.iter().all(|x| *x == FILLING)),
-    )
+    answer.map(|n| n as usize).map_err(field::Refusal::number) == count
+        && rest.is_some_and(|rest| rest.iter().all(|x| *x == FILLING))
 }
 
-// Listings into lists that are longer than needed, just long enough, and an entry too short.
+// Listings into lists that are longer than needed, just long enough, and an entry too short: the front of the lent one. It is never too short
+// for them, as there are no more roots than elements; if there were, `solve` would not have agreed.
 fn listings_agree(
     equation: &Equation<'_>,
     expected: Expected<'_>,
-    alloc: Global,
-) -> Result<bool, AllocError> {
+    list: &mut [u16; ENTRIES],
+) -> bool {
     let count = expected.map_or(0, |roots| roots.len());
     for room in [count.saturating_add(8), count, count.saturating_sub(1)] {
-        if !listing_agrees(equation, expected, room, alloc)? {
-            return Ok(false);
+        if !listing_agrees(equation, expected, &mut list[..room.min(ENTRIES)]) {
+            return false;
         }
     }
-    Ok(true)
+    true
 }
 
 // The root at place n.
@@ -106,11 +99,11 @@ fn places_compared(equation: &Equation<'_>, expected: Expected<'_>) -> Option<u3
 pub fn compared(
     equation: &Equation<'_>,
     expected: Expected<'_>,
-    alloc: Global,
-) -> Result<Option<u32>, AllocError> {
-    if solve_agrees(equation, expected) && listings_agree(equation, expected, alloc)? {
-        Ok(places_compared(equation, expected))
+    list: &mut [u16; ENTRIES],
+) -> Option<u32> {
+    if solve_agrees(equation, expected) && listings_agree(equation, expected, list) {
+        places_compared(equation, expected)
     } else {
-        Ok(None)
+        None
     }
 }

@@ -1,9 +1,15 @@
 // An equation by the program's own arithmetic: its test, and the search over all elements for its roots and its directions.
-ghost use Rattle.std.specs.Prelude.{◌<◌};
+ghost use Rattle.std.specs.Prelude.{◌<◌, ◌≤◌, length};
 
-use std::alloc::{AllocError, Global};
+use arrayvec::ArrayVec;
 use trial::inner::plain::Field;
 use trial::inner::refusal::Refusal;
+
+// Room for a call's coefficients: three more than m + 1 at most.
+pub const ROOM: usize = 20;
+
+// No field has more elements, and so no list more roots.
+pub const ELEMENTS: usize = 65536;
 
 // How many directions an answer has room for.
 pub const PLACES: usize = 16;
@@ -35,16 +41,18 @@ impl Equation<'_> {
         sum
     }
 
-    // Every element that is a root, ascending.
-    pub fn roots(&self, alloc: Global) -> Result<Vec<u16>, AllocError> {
+    // Every element that is a root, ascending, in a lent list.
+    pub fn roots<'r>(&self, list: &'r mut ArrayVec<u16, ELEMENTS>) -> &'r [u16]
+        ensures { length result.now ≤ 65536 }
+    {
+        list.clear();
         let constant = self.coefficients.first().copied().unwrap_or(0);
-        let mut roots = Vec::new(alloc);
         for x in 0..self.field.size() {
             if self.linear(x) == constant {
-                roots.push(x as u16)?;
+                list.push(x as u16);
             }
         }
-        Ok(roots)
+        list.as_slice()
     }
 
     // The smallest of the elements with highest bit j at which the linear part is 0.

@@ -1,16 +1,14 @@
 // One call after another: drawn, chosen or damaged, searched, compared and counted.
 use crate::chosen::EQUATIONS;
-use crate::compare::{self, Expected};
+use crate::compare::{self, ENTRIES};
 use crate::counts::Counts;
-use crate::equation::Equation;
+use crate::equation::{ELEMENTS, Equation, ROOM};
+use arrayvec::ArrayVec;
 use std::io;
 use trial::inner::generator::{ACCEPTED, Generator, HALF};
 use trial::inner::plain::{Field, LARGEST};
 use trial::inner::print;
-use trial::inner::refusal::Refused;
-
-// Room for a call's coefficients: three more than m + 1 at most.
-const ROOM: usize = 20;
+use trial::inner::refusal::{Refusal, Refused};
 
 // How many degrees are searched beside 16: 2 to 8.
 pub const SMALL: usize = 7;
@@ -20,11 +18,14 @@ const DRAWN: u32 = 400;
 
 const DAMAGED: u32 = 600;
 
-// Where the run prints, what it draws from, and what it has counted: the calls turned down apart.
+// Where the run prints, what it draws from, and what it has counted: the calls turned down apart. Two long lists are made once and lent to
+// each call, for the roots found and for the listings.
 #[derive(Drop)]
 pub struct Run<'a> {
     rt: &'a HostRuntime,
     generator: Generator,
+    roots: ArrayVec<u16, ELEMENTS>,
+    list: [u16; ENTRIES],
     pub refused: Refused<4>,
     pub counts: Counts,
 }
@@ -34,6 +35,8 @@ impl<'a> Run<'a> {
         Run {
             rt,
             generator: Generator::new(),
+            roots: ArrayVec::new(),
+            list: [0; ENTRIES],
             refused: Refused::new(),
             counts: Counts::default(),
         }
@@ -41,7 +44,6 @@ impl<'a> Run<'a> {
 
     // A call with these coefficients.
     fn call(&mut self, field: Field, coefficients: &[u32]) -> io::Result<()> {
-        let alloc = self.rt.alloc();
         let equation = Equation {
             field,
             coefficients,
@@ -52,17 +54,19 @@ impl<'a> Run<'a> {
                 self.compare(&equation, Err(refusal))
             }
             Ok(()) => {
-                let roots = equation.roots(alloc)?;
+                let roots = equation.roots(&mut self.roots);
                 self.counts.equations += 1;
                 self.counts.tried += u64::from(field.size());
                 self.counts.roots += roots.len() as u64;
-                self.compare(&equation, Ok(roots.as_slice()))
+                self.compare(&equation, Ok(()))
             }
         }
     }
 
-    fn compare(&mut self, equation: &Equation<'_>, expected: Expected<'_>) -> io::Result<()> {
-        match compare::compared(equation, expected, self.rt.alloc())? {
+    // A call beside the roots that were found last, or why it is to be turned down.
+    fn compare(&mut self, equation: &Equation<'_>, check: Result<(), Refusal>) -> io::Result<()> {
+        let expected = check.and(Ok(self.roots.as_slice()));
+        match compare::compared(equation, expected, &mut self.list) {
             Some(places) => {
                 self.counts.places += u64::from(places);
                 Ok(())
@@ -115,7 +119,7 @@ impl<'a> Run<'a> {
     fn chosen(&mut self, fields: [Field; 2]) -> io::Result<()> {
         for chosen in &EQUATIONS {
             for field in fields {
-                let coefficients = chosen.coefficients(field, self.rt.alloc())?;
+                let coefficients = chosen.coefficients(field);
                 self.call(field, &coefficients)?;
             }
         }

@@ -42,31 +42,31 @@ impl<'a> Calls<'a> {
     }
 
     // Whether a call of `solve` agrees.
-    fn solve_agrees(&mut self, field: Field, coefficients: &[u32]) -> io::Result<bool> {
+    fn solve_agrees(&mut self, field: Field, coefficients: &[u32]) -> bool {
         if let Err(refusal) = solve_check(field, coefficients) {
             self.solve_refused.count(refusal);
-            return Ok(compare::solve_agrees(field, coefficients, Err(refusal)));
+            return compare::solve_agrees(field, coefficients, Err(refusal));
         }
-        let found = search::solved(Polynomial::padded(field, coefficients), self.rt.alloc())?;
+        let found = search::solved(Polynomial::padded(field, coefficients));
         self.counts.equations += 1;
         self.counts.tried += u64::from(field.size());
         self.counts.roots += found.len() as u64;
         self.counts.multiple += found.iter().filter(|root| 1 < root.multiplicity).count() as u64;
-        Ok(compare::solve_agrees(field, coefficients, Ok(&found)))
+        compare::solve_agrees(field, coefficients, Ok(&found))
     }
 
     // Whether a call of `build` agrees, and the round trip.
-    fn build_agrees(&mut self, field: Field, list: &[u32]) -> io::Result<bool> {
+    fn build_agrees(&mut self, field: Field, list: &[u32]) -> bool {
         let expected = field.check(list, 0, 4);
         match expected {
             Ok(()) => self.counts.builds += 1,
             Err(refusal) => self.build_refused.count(refusal),
         }
-        Ok(compare::build_agrees(field, list, expected, self.rt.alloc())?)
+        compare::build_agrees(field, list, expected)
     }
 
     pub fn solve(&mut self, field: Field, coefficients: &[u32]) -> io::Result<()> {
-        if self.solve_agrees(field, coefficients)? {
+        if self.solve_agrees(field, coefficients) {
             Ok(())
         } else {
             self.difference(" solve", field, coefficients)
@@ -74,7 +74,7 @@ impl<'a> Calls<'a> {
     }
 
     pub fn build(&mut self, field: Field, list: &[u32]) -> io::Result<()> {
-        if self.build_agrees(field, list)? {
+        if self.build_agrees(field, list) {
             Ok(())
         } else {
             self.difference(" build", field, list)

@@ -3,7 +3,6 @@ use crate::polynomial::Polynomial;
 use crate::search;
 use crate::search::Root;
 use roots::RootsAnswer;
-use std::alloc::{AllocError, Global};
 use trial::inner::plain::Field;
 use trial::inner::refusal::Refusal;
 
@@ -33,21 +32,14 @@ pub fn solve_agrees(
 
 // Whether `build` gives the product over the list, or turns the call down for what it is to be; and then whether `solve` gives the list's
 // entries back from the coefficients that were built from them.
-pub fn build_agrees(
-    field: Field,
-    list: &[u32],
-    expected: Result<(), Refusal>,
-    alloc: Global,
-) -> Result<bool, AllocError> {
+pub fn build_agrees(field: Field, list: &[u32], expected: Result<(), Refusal>) -> bool {
     match (roots::build(field.polynomial, list), expected) {
-        (Err(said), Err(refusal)) => Ok(said.number() == refusal.number()),
+        (Err(said), Err(refusal)) => said.number() == refusal.number(),
         (Ok(coefficients), Ok(())) => {
-            let found = search::listed(field, list, alloc)?;
-            Ok(
-                coefficients == Polynomial::with_roots(field, 1, list).coefficients
-                    && solve_agrees(field, &coefficients, Ok(&found)),
-            )
+            let found = search::listed(field, list);
+            coefficients == Polynomial::with_roots(field, 1, list).coefficients
+                && solve_agrees(field, &coefficients, Ok(&found))
         }
-        _ => Ok(false),
+        _ => false,
     }
 }

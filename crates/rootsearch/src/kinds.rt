@@ -2,7 +2,7 @@
 ghost use Rattle.std.specs.Prelude.{◌≤◌};
 
 use crate::polynomial::Polynomial;
-use std::alloc::{AllocError, Global};
+use arrayvec::ArrayVec;
 use trial::inner::generator::HALF;
 use trial::inner::plain::Field;
 
@@ -30,8 +30,14 @@ pub const PATTERNS: [Pattern; 12] = [
 ];
 
 impl Pattern {
-    pub fn list(self, drawn: &[u32; ROOM], alloc: Global) -> Result<Vec<u32>, AllocError> {
-        self.0.iter().map(|i| drawn[i % ROOM]).collect(alloc)
+    // Each entry finds room, as no pattern has more than four. Of more than ROOM the last would go, and `build` is to turn down so long a
+    // list with or without them.
+    pub fn list(self, drawn: &[u32; ROOM]) -> ArrayVec<u32, ROOM> {
+        let mut list = ArrayVec::new();
+        for i in self.0 {
+            let _ = list.try_push(drawn[i % ROOM]);
+        }
+        list
     }
 }
 

@@ -70,7 +70,7 @@ impl<'a> Run<'a> {
     fn turn(&mut self, field: Field, kind: Kind, pattern: Pattern) -> io::Result<()> {
         let drawn: [u32; ROOM] = self.generator.elements(field.size(), kind.zeros());
         self.generator.advance();
-        let list = pattern.list(&drawn, self.calls.rt.alloc())?;
+        let list = pattern.list(&drawn);
         let equation = kind.equation(field, &drawn, &list);
         let least = kind.least(&equation);
         let count = least + self.generator.below(6 - least as u32) as usize;

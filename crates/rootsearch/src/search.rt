@@ -1,7 +1,11 @@
 // The search over all elements.
 use crate::polynomial::Polynomial;
-use std::alloc::{AllocError, Global};
+use arrayvec::ArrayVec;
 use trial::inner::plain::Field;
+
+// Room for one root more than an answer has. There are never more than four; if there were, the fifth would show in the comparison, so those
+// after it may be let go.
+const ROOTS: usize = 5;
 
 #[derive(Debug, Clone, Copy, Default, PartialEq, Eq)]
 pub struct Root {
@@ -10,32 +14,28 @@ pub struct Root {
 }
 
 // The roots, ascending: the elements whose multiplicity is not 0.
-fn roots<F: Fn(u32) -> usize>(
-    field: Field,
-    alloc: Global,
-    multiplicity: F,
-) -> Result<Vec<Root>, AllocError>
+fn roots<F: Fn(u32) -> usize>(field: Field, multiplicity: F) -> ArrayVec<Root, ROOTS>
     requires { F.IsAlwaysCallable multiplicity }
 {
-    let mut roots = Vec::new(alloc);
+    let mut roots = ArrayVec::new();
     for element in 0..field.size() {
         let multiplicity = multiplicity(element);
         if multiplicity != 0 {
-            roots.push(Root {
+            let _ = roots.try_push(Root {
                 element,
                 multiplicity,
-            })?;
+            });
         }
     }
-    Ok(roots)
+    roots
 }
 
 // The roots by trying every element.
-pub fn solved(polynomial: Polynomial, alloc: Global) -> Result<Vec<Root>, AllocError> {
-    roots(polynomial.field, alloc, |x| polynomial.multiplicity(x))
+pub fn solved(polynomial: Polynomial) -> ArrayVec<Root, ROOTS> {
+    roots(polynomial.field, |x| polynomial.multiplicity(x))
 }
 
 // The roots of the polynomial that was built from the list, without solving: every element that stands in it, as often as it does.
-pub fn listed(field: Field, list: &[u32], alloc: Global) -> Result<Vec<Root>, AllocError> {
-    roots(field, alloc, |x| list.iter().filter(|r| **r == x).count())
+pub fn listed(field: Field, list: &[u32]) -> ArrayVec<Root, ROOTS> {
+    roots(field, |x| list.iter().filter(|r| **r == x).count())
 }
