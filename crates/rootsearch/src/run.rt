@@ -34,7 +34,9 @@ fn digits(e: u32, size: u32) -> [u32; PLACES]
 }
 
 // How many equations of each kind are drawn in a field: fewer the more elements are to be tried.
-fn rounds(m: u32) -> u32 {
+fn rounds(m: u32) -> u32
+    ensures { result ≤ 16 }
+{
     match m {
         16 => 1,
         15 => 2,
