@@ -3,9 +3,9 @@
 // that a caller who goes on in a chunk, or lends `&out[..n]`, has nothing to prove.
 #![tactic(auto)]
 
-ghost use Rattle.std.specs.Prelude.{◌≡◌, ◌≤◌, length};
+ghost use Rattle.std.specs.Prelude.{◌≡◌, ◌≤◌, length, replicate};
 ghost use Rattle.std.proofs.lemmas.List.Edits.{sets};
-ghost use Rattle.frames.specs.Limits.{answer_room};
+ghost use Rattle.frames.specs.Limits.{most_digits, answer_room};
 ghost use Rattle.frames.specs.Text.{Counts};
 ghost use Rattle.frames.specs.Answer.{answer_text};
 ghost use Rattle.frames.specs.Stream.{taken_of, length_after, line_after, written_of, last_written};
@@ -14,7 +14,7 @@ pub mod inner;
 pub mod limits;
 pub mod refused;
 
-use crate::inner::call::answered;
+use crate::inner::call::put_answered;
 use crate::inner::stream::first_feed;
 use crate::limits::{ANSWER_ROOM, MOST_DIGITS};
 
@@ -40,13 +40,14 @@ pub fn answer_line(line: &[u8], out: &mut [u8; ANSWER_ROOM]) -> usize
     ensures upper_bound { result ≤ answer_room }
     ensures counts { Counts result out.new }
 {
-    answered(line).put_text(out)
+    put_answered(line, out)
 }
 
 impl OpenLine {
     // Before the first byte of a stream.
     pub fn new() -> Self
-        ensures { result.length ≡ 0 }
+        ensures length_value { result.length ≡ 0 }
+        ensures bytes_value { result.bytes ≡ replicate most_digits 0 }
     {
         OpenLine {
             length: 0,

@@ -8,7 +8,7 @@ use crate::inner::digit::degree;
 use crate::inner::division::turned;
 use crate::inner::modulo::Modulus;
 
-const BLOCK: usize = 8;
+pub const BLOCK: usize = 8;
 
 // Eight divisors from a multiple of 8 on. They differ in their last three digits only, so that all have one degree.
 #[derive(Clone, Copy, Debug, PartialEq, Eq)]

@@ -1,10 +1,10 @@
 // What a frame line says.
-ghost use Rattle.std.specs.Prelude.{◌≡◌, ◌+◌, ◌*◌, ◌≤◌, ◌<◌, length, take, MatchOption, IfSome};
+ghost use Rattle.std.specs.Prelude.{◌≡◌, true, ◌+◌, ◌*◌, ◌≤◌, ◌<◌, length, take, replicate, MatchOption, IfSome};
 ghost use Rattle.algebra.specs.Lists.{padded};
 ghost use Rattle.field.specs.Refusal.{refusal};
 ghost use Rattle.frames.specs.Limits.{most_counted};
-ghost use Rattle.frames.specs.Frame.{byte_at, polynomial_of, count_of, coefficient_at, coefficients_of, line_tests};
-ghost use Rattle.frames.specs.Digits.{Decodes};
+ghost use Rattle.frames.specs.Frame.{byte_at, polynomial_of, count_of, coefficient_at, coefficients_of, another_character, line_tests};
+ghost use Rattle.frames.specs.Digits.{Decoded, Decodes};
 
 use crate::inner::character::digit_value;
 use crate::inner::kind::Kind;
@@ -43,19 +43,19 @@ fn coefficient_at(line: &[u8], i: usize) -> Option<u32>
     Some(byte_at(line, 5 + 2 * i)? * 256 + byte_at(line, 6 + 2 * i)?)
 }
 
-// The coefficients, 0 in the places after them.
-fn coefficients_of(line: &[u8], count: usize) -> Option<[u32; MOST_COUNTED]>
+// The coefficients, into places that hold 0. (Lent, so that nothing is cleared or copied for a line before it is known to have any.)
+fn put_coefficients(line: &[u8], count: usize, places: &mut [u32; MOST_COUNTED]) -> Option<()>
     requires count_value { count ≡ count_of line.now }
     requires few { count ≤ most_counted }
     requires long { length line.now ≡ 10 + 4 * count }
-    ensures { Decodes line.now 10 (length line.now) (padded most_counted (coefficients_of line.now)) result }
+    requires clear { places.old ≡ replicate most_counted 0 }
+    ensures { MatchOption result (another_character line.now ≡ true) (λ done. Decoded line.now 10 (length line.now) (padded most_counted (coefficients_of line.now)) places.new) }
 {
-    let mut coefficients = [0; MOST_COUNTED];
     // The number i of a coefficient says where it is read as well as where it is put.
     for i in 0..count {
-        coefficients[i] = coefficient_at(line, i)?;
+        places[i] = coefficient_at(line, i)?;
     }
-    Some(coefficients)
+    Some(())
 }
 
 impl Frame {
@@ -74,7 +74,8 @@ impl Frame {
         if line.len() != 10 + 4 * count {
             return None;
         }
-        let coefficients = coefficients_of(line, count)?;
+        let mut coefficients = [0; MOST_COUNTED];
+        put_coefficients(line, count, &mut coefficients)?;
         Some(Frame {
             kind,
             polynomial,

@@ -1,14 +1,13 @@
 // The bytes of a line as they come, and the answer once it has ended.
-ghost use Rattle.std.specs.Prelude.{◌≡◌, ◌≤◌, ◌<◌, length, unwrap_or, IfSome};
+ghost use Rattle.std.specs.Prelude.{◌≡◌, ◌*◌, ◌≤◌, ◌<◌, length, unwrap_or, IfSome};
 ghost use Rattle.std.proofs.lemmas.List.Edits.{sets};
-ghost use Rattle.frames.specs.Limits.{answer_room};
+ghost use Rattle.frames.specs.Limits.{most_bytes, answer_room};
 ghost use Rattle.frames.specs.Text.{Counts};
-ghost use Rattle.frames.specs.Answer.{answer_bytes};
+ghost use Rattle.frames.specs.Answer.{answer_text};
 ghost use Rattle.frames.specs.Stream.{before_feed, lengthened, kept_after, held, answer_line};
 
 use crate::OpenLine;
-use crate::inner::call::{answered, malformed};
-use crate::inner::text::AnswerBytes;
+use crate::inner::call::{put_answered, put_malformed};
 use crate::limits::{ANSWER_ROOM, MOST_DIGITS};
 
 const LINE_FEED: u8 = b'\n';
@@ -36,25 +35,27 @@ impl OpenLine {
         self.length = self.length.saturating_add(bytes.len()).min(TOO_LONG);
     }
 
-    // The bytes of the answer to the line, which has ended.
-    fn answer(&self) -> AnswerBytes
-        ensures { result ≡ answer_bytes (held self.now.length self.now.bytes) }
+    // The answer to the line, which has ended. Says how many characters there are.
+    fn put_text(&self, out: &mut [u8; ANSWER_ROOM]) -> usize
+        ensures value { result ≡ length (answer_text (held self.now.length self.now.bytes)) }
+        ensures out_after { out.new ≡ sets out.old 0 (answer_text (held self.now.length self.now.bytes)) }
+        ensures upper_bound { result ≤ 2 * most_bytes }
     {
         if MOST_DIGITS < self.length {
-            malformed()
+            put_malformed(out)
         } else {
-            answered(&self.bytes[..self.length])
+            put_answered(&self.bytes[..self.length], out)
         }
     }
 
-    // The answer, and a line feed. Says how many characters there are.
+    // The same, and a line feed.
     pub(crate) fn put_answer(&self, out: &mut [u8; ANSWER_ROOM]) -> usize
         ensures value { result ≡ length (answer_line (held self.now.length self.now.bytes)) }
         ensures out_after { out.new ≡ sets out.old 0 (answer_line (held self.now.length self.now.bytes)) }
         ensures upper_bound { result ≤ answer_room }
         ensures counts { Counts result out.new }
     {
-        let end = self.answer().put_text(out);
+        let end = self.put_text(out);
         out[end] = LINE_FEED;
         end + 1
     }

@@ -22,12 +22,12 @@ returns c =
     let count = c.in_ok-count.field-0 in
     let first = digits_join line 0 2 2 8 8 c.in_ok-byte_at.ensures.decodes.1 c.in_ok-polynomial.ensures.1 (omega arith) (omega arith) in
     let five = digits_join line 0 8 8 10 10 first c.in_ok-count.ensures.decodes.1 (omega arith) (omega arith) in
-    let all = digits_join line 0 10 10 (length line) (length line) five c.in_ok-coefficients.ensures.1 (omega arith) (omega arith) in
+    let all = digits_join line 0 10 10 (length line) (length line) five c.in_ok-put_coefficients.ensures.1 (omega arith) (omega arith) in
     let kind = some_kind line c.in_ok-kind.kind _ c.in_ok-kind.ensures c.in_ok-byte_at.ensures.decodes.0 in
     let agrees = right_count line count c.in_ok-count.ensures.decodes.0 c.if-line-count.false in
     record {
       accepted = sym (well_formed line (omega arith) (λ e. absurd (omega arith)) (omega arith) (sym (all_digits line all)) (sym kind) (sym agrees));
       kind = c.in_ok-kind.ensures ∙ c.in_ok-byte_at.ensures.decodes.0;
       polynomial = c.in_ok-polynomial.ensures.0;
-      coefficients = ap (take count) c.in_ok-coefficients.ensures.0 ∙ front_padded most_counted count (coefficients_of line) (coefficient_count line ∙ sym c.in_ok-count.ensures.decodes.0);
+      coefficients = ap (take count) c.in_ok-put_coefficients.ensures.0 ∙ front_padded most_counted count (coefficients_of line) (coefficient_count line ∙ sym c.in_ok-count.ensures.decodes.0);
     }
