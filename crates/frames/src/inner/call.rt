@@ -1,10 +1,10 @@
-// A line to the text of its answer, by the call that its kind asks for. Each function that puts a text says how many characters there are.
+// A line to its answer, by the call that its kind asks for. Each function that puts a text says how many characters there are.
 ghost use Rattle.std.specs.Prelude.{◌≡◌, [], ◌∷◌, ◌*◌, ◌≤◌, eqb, length};
 ghost use Rattle.std.proofs.lemmas.List.Edits.{sets};
 ghost use Rattle.frames.specs.Kind.{kind_byte};
 ghost use Rattle.frames.specs.Limits.{most_bytes};
 ghost use Rattle.frames.specs.Text.{text, Counts};
-ghost use Rattle.frames.specs.Answer.{called_bytes, answer_text};
+ghost use Rattle.frames.specs.Answer.{called_bytes, answer_bytes, answer_text};
 
 use crate::inner::answer::{affine_answer, roots_answer};
 use crate::inner::character::capital;
@@ -13,6 +13,9 @@ use crate::inner::kind::Kind;
 use crate::inner::text::AnswerBytes;
 use crate::limits::ANSWER_ROOM;
 use crate::refused::MALFORMED;
+
+// The first byte of the answer to a malformed line, in place of a kind: a byte that the answer has, and no kind of the code.
+const NO_KIND: u32 = 255;
 
 // To a malformed line: FF, which is no kind, and its number. (Put as it stands: by way of a list of answer bytes the program took more than
 // four times as long for an empty line.)
@@ -58,5 +61,16 @@ pub fn put_answered(line: &[u8], out: &mut [u8; ANSWER_ROOM]) -> usize
     match Frame::of_line(line) {
         Some(frame) => put_called(frame.kind, frame.polynomial, frame.coefficients(), out),
         None => put_malformed(out),
+    }
+}
+
+// The bytes of the answer to any line, for a caller who goes on with them. (The text that `put_answered` puts is made without them, where
+// the line is malformed.)
+pub fn answered(line: &[u8]) -> AnswerBytes
+    ensures { result ≡ answer_bytes line.now }
+{
+    match Frame::of_line(line) {
+        Some(frame) => called(frame.kind, frame.polynomial, frame.coefficients()),
+        None => AnswerBytes::begun(NO_KIND, MALFORMED),
     }
 }
